@@ -1,11 +1,18 @@
 //! What every crate here speaks of: places, refusals, settings, and the outside world.
-//!
-//! Promised: each value of [`Settings`] and [`Turns`] is in its range; a refused allocation becomes
-//! [`Refusal::Memory`].
 #![tactic(auto)]
 
+mod gate;
+mod host;
+mod mem_files;
+mod mem_sink;
+mod outside;
 mod refusal;
 mod settings;
 
+pub use gate::{Gate, NoGate};
+pub use host::{HostFiles, HostSink};
+pub use mem_files::{MemFiles, NamedFile};
+pub use mem_sink::MemSink;
+pub use outside::{Failed, Files, Sink};
 pub use refusal::{LimitKind, Place, Refusal};
 pub use settings::{Settings, Status, Turns, Written};
