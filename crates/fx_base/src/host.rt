@@ -5,10 +5,9 @@ ghost use Rattle.std.specs.Prelude.{◌≡◌, None};
 ghost use Rattle.fx_base.specs.Told.{Untold};
 
 use crate::outside::{Failed, Files, Sink};
-use std::fs;
 use std::io::{Read, Write};
 use std::marker::Model;
-use std::rt;
+use std::{fs, rt};
 
 /// The files of the host.
 #[derive(Drop)]
@@ -28,9 +27,10 @@ impl<'a, R: rt::Files> Model for HostFiles<'a, R> {
     ghost Value = { HostReading };
 
     ghost view = { λ h. record {
-        opened = option_map string_bytes h.name;
-        taken = h.taken;
-        faults = h.faults } };
+      opened = option_map string_bytes h.name;
+      taken = h.taken;
+      faults = h.faults;
+    } };
 }
 
 impl<'a, R: rt::Files> HostFiles<'a, R> {

@@ -71,12 +71,13 @@ impl Model for MemFiles {
     ghost Value = { FilesInMemory };
 
     ghost view = { λ m. record {
-        files = m.files.items;
-        failing = m.failing.items;
-        opened = option_map string_bytes m.opened;
-        taken = m.taken;
-        reads = m.reads;
-        faults = m.faults } };
+      files = m.files.items;
+      failing = m.failing.items;
+      opened = option_map string_bytes m.opened;
+      taken = m.taken;
+      reads = m.reads;
+      faults = m.faults;
+    } };
 
     ghost invariant = { λ m. IsWithinFile m.files.items (option_map string_bytes m.opened) m.taken };
 }
@@ -140,7 +141,9 @@ impl Files for MemFiles {
             self.faults = self.faults.saturating_add(1);
             return Err(Failed);
         }
-        let Some(name) = &self.opened else { unreachable!() };
+        let Some(name) = &self.opened else {
+            unreachable!()
+        };
         let Some(bytes) = bytes_of(&self.files, name.as_str()) else {
             self.faults = self.faults.saturating_add(1);
             return Err(Failed);

@@ -29,12 +29,13 @@ impl Model for MemSink {
     ghost Value = { SinkInMemory };
 
     ghost view = { λ m. record {
-        held = m.held.items;
-        failing = m.failing.items;
-        most = m.most;
-        room = m.room;
-        writes = m.writes;
-        faults = m.faults } };
+      held = m.held.items;
+      failing = m.failing.items;
+      most = m.most;
+      room = m.room;
+      writes = m.writes;
+      faults = m.faults;
+    } };
 
     ghost invariant = { λ m. (vec_len m.held ≤ m.room) × (m.room ≤ vec_capacity m.held) };
 }
@@ -49,7 +50,12 @@ impl MemSink {
     /// # Errors
     ///
     /// [`Refusal::Memory`] alone.
-    pub fn new(alloc: Global, failing: Vec<u64>, most: usize, room: usize) -> Result<MemSink, Refusal>
+    pub fn new(
+        alloc: Global,
+        failing: Vec<u64>,
+        most: usize,
+        room: usize,
+    ) -> Result<MemSink, Refusal>
         ensures held { IfOk result (λ sink. sink.held ≡ []) }
         ensures failing { IfOk result (λ sink. sink.failing ≡ failing.items) }
         ensures most { IfOk result (λ sink. sink.most ≡ most) }

@@ -48,6 +48,15 @@ pub struct Turns {
     pub ghost in_range: { (1 ≤ count) × (count ≤ 1000000) },
 }
 
+impl Turns {
+    /// The count that holds where the command words name none.
+    pub fn usual() -> Turns
+        ensures { result.count ≡ 1000 }
+    {
+        Turns { count: 1000 }
+    }
+}
+
 /// The status that the process ends with.
 #[derive(Clone, Copy, Debug, PartialEq, Eq)]
 pub struct Status(pub u8);

@@ -1,0 +1,13 @@
+pub mod HeapKept
+pub mod OneShot
+pub mod Resumptions
+pub mod ExampleRuns
+pub mod ExampleOrder
+pub mod ExampleEffects
+pub mod ExampleFibers
+pub mod ExampleCalls
+pub mod ExampleDomains
+pub mod ExampleIntegers
+pub mod ExampleMeasures
+pub mod ExampleEarlyEnds
+pub mod ExampleLaws

@@ -1,0 +1,4 @@
+mod Emitted
+mod Filling
+mod Fitting
+mod Writing

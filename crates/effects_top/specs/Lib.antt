@@ -1,0 +1,6 @@
+pub mod Answers
+pub mod Compiled
+pub mod Outcome
+pub mod Output
+pub mod Source
+pub mod Words

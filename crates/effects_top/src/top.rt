@@ -1,0 +1,112 @@
+//! The top call.
+
+ghost use Rattle.std.specs.Prelude.{◌≡◌, ℕ, ◌≤◌, ◌⊎◌, ◌↔◌, None, Some, IsSome, IfOk, IsErrOf, ◌<◌, ◌^◌, map};
+ghost use Rattle.std.specs.String.{string_bytes};
+ghost use Rattle.fx_base.specs.Faults.{Rose};
+ghost use Rattle.effects_top.specs.Words.{file_of};
+ghost use Rattle.effects_top.specs.Source.{source_limit};
+ghost use Rattle.effects_top.specs.Output.{Wrote};
+ghost use Rattle.effects_top.specs.Outcome.{Refused, Ran, run_status, run_line};
+
+use crate::answers::{end_status, refusal_status, tell_end, tell_refusal};
+use crate::compile::compile;
+use crate::outcome::Outcome;
+use crate::output::write_all;
+use crate::reader::read_form;
+use crate::runner::run;
+use crate::source::read_source;
+use crate::words::file_word;
+use fx_base::{Files, Gate, Place, Refusal, Settings, Sink, Status, Turns, Written};
+use rv_model::{Image, Report, RunEnd};
+use std::alloc::Global;
+use std::sync::Wait;
+use std::thread::Threads;
+
+// The image of the program that the words name.
+fn image_of<F: Files>(alloc: Global, words: &[String], files: &mut F) -> Result<Image, Refusal>
+    requires { F.opened files.old ≡ None }
+    ensures opened { (F.opened files.new ≡ None) ⊎ (F.opened files.new ≡ file_of (map string_bytes words.now)) }
+    ensures usage { IsErrOf result Refusal.Usage ↔ (file_of (map string_bytes words.now) ≡ None) }
+    ensures file { IsErrOf result Refusal.File → Rose (F.faults files.old) (F.faults files.new) }
+    ensures limit { IsErrOf result source_limit ↔ (IsSome (F.opened files.new) × (F.taken files.new ≡ 1048577)) }
+    ensures faults { F.faults files.old ≤ F.faults files.new }
+    ensures room { IfOk result (λ image. image.size < 2 ^ 40) }
+{
+    let Some(file) = file_word(words) else {
+        return Err(Refusal::Usage);
+    };
+    let source = read_source(alloc, files, file)?;
+    let Some(postfix) = read_form(alloc, &source)? else {
+        return Err(Refusal::Syntax(Place { line: 1, column: 1 }));
+    };
+    Ok(compile(alloc, &postfix, &Settings::usual())?)
+}
+
+fn refused<E: Sink>(err: &mut E, refusal: Refusal, image: Option<Image>) -> Outcome
+    ensures { Refused result refusal (E.held err.old) (E.held err.new) (E.faults err.old) (E.faults err.new) }
+{
+    let _told = tell_refusal(err, refusal);
+    Outcome {
+        status: refusal_status(refusal),
+        image,
+        report: None,
+        written: None,
+    }
+}
+
+// The status after a run.
+fn run_status(end: &RunEnd, written: Written) -> Status
+    ensures { result.0 ≡ run_status end.now written }
+{
+    match written {
+        Written::Whole => end_status(end),
+        Written::Failed => Status(69),
+    }
+}
+
+// Writes the line on standard error after a run.
+fn tell_run<E: Sink>(err: &mut E, end: &RunEnd, written: Written) -> Written
+    ensures { Wrote (E.held err.old) (E.held err.new) (E.faults err.old) (E.faults err.new) (run_line end.now written) result }
+{
+    match written {
+        Written::Whole => tell_end(err, end),
+        Written::Failed => write_all(err, b"error: output\n"),
+    }
+}
+
+// Writes what was printed, and the line for the end of the run.
+fn finished<O: Sink, E: Sink>(out: &mut O, err: &mut E, image: Image, report: Report) -> Outcome
+    ensures { Ran result report (O.held out.old) (O.held out.new) (O.faults out.old) (O.faults out.new) (E.held err.old) (E.held err.new) (E.faults err.old) (E.faults err.new) }
+{
+    let written = write_all(out, report.printed.as_slice());
+    let _told = tell_run(err, &report.end, written);
+    Outcome {
+        status: run_status(&report.end, written),
+        image: Some(image),
+        report: Some(report),
+        written: Some(written),
+    }
+}
+
+/// Does what the command words say: compiles the file that they name, runs it, and writes what it
+/// prints.
+pub fn effects_main<R: Threads + Wait, F: Files, O: Sink, E: Sink, G: Gate>(
+    _rt: &R,
+    alloc: Global,
+    words: &[String],
+    files: &mut F,
+    out: &mut O,
+    err: &mut E,
+    _gate: &G,
+) -> Outcome
+    requires { F.opened files.old ≡ None }
+{
+    let image = match image_of(alloc, words, files) {
+        Ok(image) => image,
+        Err(refusal) => return refused(err, refusal, None),
+    };
+    match run(alloc, &image, Turns::usual()) {
+        Ok(report) => finished(out, err, image, report),
+        Err(_) => refused(err, Refusal::Memory, Some(image)),
+    }
+}

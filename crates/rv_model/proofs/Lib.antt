@@ -1,0 +1,13 @@
+pub mod Decoding
+pub mod Ends
+pub mod ExamplesEffects
+pub mod ExamplesRuns
+pub mod ExamplesSteps
+pub mod ExamplesWords
+pub mod Fields
+pub mod InTurns
+pub mod Lists
+pub mod Plans
+pub mod Reaching
+pub mod Starting
+pub mod WellFormed
