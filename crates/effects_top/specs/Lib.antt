@@ -1,5 +1,6 @@
 pub mod Answers
 pub mod Compiled
+pub mod Expression
 pub mod Outcome
 pub mod Output
 pub mod Source
