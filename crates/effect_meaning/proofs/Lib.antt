@@ -11,3 +11,8 @@ pub mod ExampleIntegers
 pub mod ExampleMeasures
 pub mod ExampleEarlyEnds
 pub mod ExampleLaws
+pub mod ArenaGrows
+pub mod TreesStay
+mod CoreExamples
+pub mod NodeTrees
+pub mod ScopesStay

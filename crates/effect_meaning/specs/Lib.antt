@@ -19,3 +19,7 @@ pub mod Limits
 pub mod Measures
 pub mod EarlyEnds
 pub mod Laws
+pub mod Arena
+pub mod ArenaTrees
+pub mod Scoped
+pub mod ArenaView

@@ -1,0 +1,12 @@
+use Rattle.std.proofs.Common.{List, sym, subst}
+use Rattle.effect_meaning.specs.Arena.{IsArena, counts, FieldStands}
+use Rattle.effect_meaning.specs.ArenaView.{parts_of}
+use Rattle.effect_meaning.specs.declared.core_tables.FieldRow.{FieldRow}
+use Rattle.effect_meaning.proofs.ArenaGrows.{pushed, with_field_row}
+use Rattle.effect_meaning.proofs.core_arena.CoreArena.push_field_row.Goals as goal
+
+pub invariant_of-self : goal.invariant_of-self
+invariant_of-self c =
+    let P : List FieldRow → Type 0 = λ l. IsArena (record (parts_of c.self.inside) { field_rows = l }) in
+    pushed c.append.result c.append.new.elements.items c.self.inside.field_rows.items c.args.row P c.append.ensures.ok c.append.ensures.err c.self.invariant
+    (with_field_row (parts_of c.self.inside) c.args.row c.self.invariant (subst (λ p. FieldStands (counts p) c.args.row) (sym c.self.view_is) c.requires))

@@ -1,0 +1,12 @@
+use Rattle.std.proofs.Common.{List, sym, subst}
+use Rattle.effect_meaning.specs.Arena.{IsArena, counts, TypeStands}
+use Rattle.effect_meaning.specs.ArenaView.{parts_of}
+use Rattle.effect_meaning.specs.declared.core_nodes.TypeExpression.{TypeExpression}
+use Rattle.effect_meaning.proofs.ArenaGrows.{pushed, with_type}
+use Rattle.effect_meaning.proofs.core_arena.CoreArena.push_type.Goals as goal
+
+pub invariant_of-self : goal.invariant_of-self
+invariant_of-self c =
+    let P : List TypeExpression → Type 0 = λ l. IsArena (record (parts_of c.self.inside) { types = l }) in
+    pushed c.append.result c.append.new.elements.items c.self.inside.types.items c.args.node P c.append.ensures.ok c.append.ensures.err c.self.invariant
+    (with_type (parts_of c.self.inside) c.args.node c.self.invariant (subst (λ p. TypeStands (counts p) c.args.node) (sym c.self.view_is) c.requires))
