@@ -1,0 +1,5 @@
+pub mod Counts
+pub mod Endings
+pub mod Opening
+pub mod Rests
+pub mod Steps

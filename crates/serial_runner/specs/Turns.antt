@@ -1,0 +1,49 @@
+-- What holds between the instructions of a run in turns.
+use Rattle.std.specs.Prelude.{◌≡◌, ℕ, ◌+◌, ◌≤◌, List, [], ◌∷◌, Bool, true, false, ◌==◌, ◌⊎◌, length, slice_get, Some, IsTrue, IsFalse}
+use Rattle.rv_model.specs.declared.image.Image.{Image}
+use Rattle.rv_model.specs.declared.hart.Hart.{Hart as HartState}
+use Rattle.rv_model.specs.Machine.{Hart}
+use Rattle.rv_model.specs.Run.{Machine, hart_step, move_of}
+use Rattle.rv_model.specs.Serial.{is_over, goes}
+use Rattle.rv_step.specs.declared.instruction.Turn.{Turn}
+use Rattle.rv_step.specs.declared.instruction.Turn.TheVariants.{Went, Waits, Stopped, Fault}
+
+-- the hart's budget is spent
+abbrev pub is_spent : ℕ → HartState → Bool
+is_spent budget h = h.retired == budget
+
+-- the instructions that all harts have retired
+abbrev pub total : List HartState → ℕ
+total [] = 0
+total (h ∷ hs) = h.retired + total hs
+
+-- no hart has retired more than the budget
+abbrev pub AreWithin : ℕ → List HartState → Type 0
+AreWithin budget hs = (k : ℕ) (h : HartState) → slice_get hs k ≡ Some h → h.retired ≤ budget
+
+-- harts and words of the image's sizes, within the budget
+pub record IsReady (image : Image) (harts : List HartState) (words : List ℕ) : Type 0 where
+  pub size : length words ≡ image.size
+  pub count : length harts ≡ image.settings.domains
+  pub within : AreWithin image.settings.budget harts
+
+-- one instruction of hart i, in a run that isn't over
+pub record IsStep (image : Image) (i : ℕ) (s s' : Machine) : Type 0 where
+  pub running : IsFalse (is_over image s)
+  pub next : s' ≡ hart_step image i s
+
+-- the run is over, or hart i has no step
+abbrev pub HasNoStep : Image → ℕ → Machine → Type 0
+HasNoStep image i s = IsTrue (is_over image s) ⊎ ((h : Hart) → slice_get s.harts i ≡ Some h → IsFalse (goes (move_of image s.words h)))
+
+-- nothing has changed, since the run is over or hart i has no step
+pub record IsStill (image : Image) (i : ℕ) (s s' : Machine) : Type 0 where
+  pub none : HasNoStep image i s
+  pub same : s' ≡ s
+
+-- the hart is one instruction further
+abbrev pub is_went : Turn → Bool
+is_went Went = true
+is_went Waits = false
+is_went Stopped = false
+is_went Fault = false
