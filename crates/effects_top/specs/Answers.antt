@@ -1,5 +1,5 @@
 -- What the program answers: the status of the process, and the line on standard error.
-use Rattle.std.specs.Prelude.{ℕ, ◌%◌, List, [], ◌∷◌, ◌++◌, codes}
+use Rattle.std.specs.Prelude.{ℕ, List, [], ◌++◌, codes}
 use Rattle.std.specs.Fmt.{decimal}
 use Rattle.fx_base.specs.declared.refusal.LimitKind.{LimitKind}
 use Rattle.fx_base.specs.declared.refusal.LimitKind.TheVariants.{Source, Depth, TypeSize, Slots, Free, Code}

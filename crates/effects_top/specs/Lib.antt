@@ -1,7 +1,13 @@
 pub mod Answers
 pub mod Compiled
 pub mod Expression
+pub mod Form
+pub mod Headline
 pub mod Outcome
 pub mod Output
+pub mod Pieces
+pub mod Reading
 pub mod Source
+pub mod Spelling
+pub mod Standing
 pub mod Words

@@ -1,5 +1,5 @@
 -- The command words.
-use Rattle.std.specs.Prelude.{ℕ, List, [], ◌∷◌, Option, Some, None, Bool, true, false, ◌&&◌, not, nat_eq, if◌then◌else◌, codes}
+use Rattle.std.specs.Prelude.{ℕ, List, [], ◌∷◌, Option, Some, None, Bool, false, ◌&&◌, not, nat_eq, if◌then◌else◌, codes}
 use Rattle.std.specs.Str.{bytes_eq}
 
 -- a word can name a file: it isn't empty and doesn't begin with a dash

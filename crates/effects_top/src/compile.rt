@@ -1,9 +1,12 @@
 //! From an expression in postfix order to an image that prints its value.
 
-ghost use Rattle.std.specs.Prelude.{◌≡◌, ◌<◌, ◌+◌, ◌^◌, ◌∷◌, ◌++◌, [], pos, IfOk, OnOk, length};
+ghost use Rattle.std.specs.Prelude.{◌≡◌, ℕ, List, ◌<◌, ◌≤◌, ◌+◌, ◌^◌, ◌∷◌, ◌++◌, [], pos, IfOk, OnOk, length};
+ghost use Rattle.effect_meaning.specs.Terms.{Place};
 ghost use Rattle.rv_model.specs.declared.instr.Instr.{Instr as InstrOf};
 ghost use Rattle.rv_model.specs.Format.{plain};
 ghost use Rattle.effects_top.specs.Compiled.{low_bits, constant_code, push_code, operands_code, arith_code, replace_code, postfix_code, expression_code, entry_code, print_code, stack_word_of, start_words_of, tagged, whole_code};
+ghost use Rattle.effects_top.specs.Expression.{Expression, AreIntegers, postfix_of, program_of};
+ghost use Rattle.effects_top.specs.Standing.{Stands};
 
 use crate::reader::{Arith, Postfix};
 use fx_base::Settings;
@@ -249,14 +252,18 @@ fn start_words(alloc: Global, settings: &Settings) -> Result<Vec<StartWord>, All
 
 /// The image that prints the value of an expression.
 ///
-/// Behind the log stands the stack of hart 0, of as many words as the settings give a fiber.
+/// Behind the log stands the stack of hart 0, of as many words as the settings give a fiber; the
+/// postfix order must fit into it. In every order of the harts' instructions the image does what the
+/// program `let () = print_int A` does, where the postfix order is that of the expression A.
 pub fn compile(alloc: Global, postfix: &[Postfix], settings: &Settings) -> Result<Image, AllocError>
-    requires { length postfix.now < 2000 }
+    requires few { length postfix.now < 2000 }
+    requires stacked { length postfix.now ≤ settings.now.stack }
     ensures settings { IfOk result (λ image. image.settings ≡ settings.now) }
     ensures code { IfOk result (λ image. image.code ≡ whole_code settings.now.out postfix.now) }
     ensures start { IfOk result (λ image. image.start ≡ start_words_of settings.now) }
     ensures size { IfOk result (λ image. image.size ≡ stack_word_of settings.now.out + settings.now.stack) }
-    ensures room { IfOk result (λ image. image.size < 2 ^ 40) }
+    ensures stands { (file : List ℕ) (place : Place) (e : Expression) → AreIntegers e → postfix.now ≡ postfix_of e
+        → IfOk result (λ image. Stands (program_of file place e) image) }
 {
     let start = start_words(alloc, settings)?;
     let code = emit_whole(alloc, postfix, settings)?;

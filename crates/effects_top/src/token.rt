@@ -1,6 +1,8 @@
 //! The tokens of the form that compiles: `let () = print_int A`.
 
-ghost use Rattle.std.specs.Prelude.{◌<◌, ◌≤◌, ◌^◌, length, IfSome};
+ghost use Rattle.std.specs.Prelude.{◌≡◌, ◌<◌, ◌≤◌, List, length, IfOk, IfSome, IfNone};
+ghost use Rattle.effects_top.specs.Pieces.{word_length, piece_length, integer_of, word_of, token_read};
+ghost use Rattle.effects_top.specs.Spelling.{is_blank, is_digit, is_word, Spells};
 
 use std::alloc::{AllocError, Global};
 
@@ -22,67 +24,105 @@ pub enum Token {
     Literal(u64),
 }
 
-fn is_blank(byte: u8) -> bool {
-    byte == b' ' || byte == b'\t' || byte == b'\n'
+fn is_blank_byte(byte: u8) -> bool
+    ensures { result ≡ is_blank byte }
+{
+    matches!(byte, b' ' | b'\t' | b'\n')
 }
 
-fn is_word(byte: u8) -> bool {
-    byte.is_ascii_alphanumeric() || byte == b'_'
+fn is_digit_byte(byte: u8) -> bool
+    ensures { result ≡ is_digit byte }
+{
+    matches!(byte, b'0'..=b'9')
+}
+
+fn is_word_byte(byte: u8) -> bool
+    ensures { result ≡ is_word byte }
+{
+    matches!(byte, b'a'..=b'z' | b'A'..=b'Z') || is_digit_byte(byte) || byte == b'_'
+}
+
+// How many bytes at the front are of a word.
+fn word_len(text: &[u8]) -> usize
+    ensures value { result ≡ word_length text.now }
+    ensures within { result ≤ length text.now }
+{
+    for (i, byte) in text.iter().enumerate() {
+        if !is_word_byte(*byte) {
+            return i;
+        }
+    }
+    text.len()
 }
 
 // How long the piece is that begins the text: a whole word, or one other byte.
 fn piece_len(text: &[u8]) -> usize
     requires { 0 < length text.now }
     ensures some { 0 < result }
+    ensures value { result ≡ piece_length text.now }
     ensures within { result ≤ length text.now }
 {
-    let word = text
-        .iter()
-        .position(|byte| !is_word(*byte))
-        .unwrap_or(text.len());
-    word.max(1)
+    let word = word_len(text);
+    if word == 0 { 1 } else { word }
 }
 
 // The value of decimal digits, where it is one of an integer.
 fn literal(digits: &[u8]) -> Option<u64>
-    ensures { IfSome result (λ n. n < 2 ^ 62) }
+    ensures { result ≡ integer_of digits.now }
 {
-    let mut value = 0u64;
+    let mut value: u128 = 0;
     for digit in digits {
-        if !digit.is_ascii_digit() {
+        if !is_digit_byte(*digit) {
             return None;
         }
-        value = value
-            .checked_mul(10)?
-            .checked_add(u64::from(*digit - b'0'))?;
-        if value > MAX_INT {
+        value = value * 10 + u128::from(*digit - b'0');
+        if value > u128::from(MAX_INT) {
             return None;
         }
     }
-    Some(value)
+    Some(value as u64)
 }
 
-fn token_of(piece: &[u8]) -> Option<Token> {
+fn word(piece: &[u8]) -> Option<Token>
+    ensures { result ≡ word_of piece.now }
+{
+    if piece == b"print_int".as_slice() {
+        return Some(Token::PrintInt);
+    }
     match piece {
         b"let" => Some(Token::Let),
-        b"print_int" => Some(Token::PrintInt),
         b"(" => Some(Token::Open),
         b")" => Some(Token::Close),
         b"=" => Some(Token::Equals),
         b"+" => Some(Token::Plus),
         b"-" => Some(Token::Minus),
         b"*" => Some(Token::Times),
-        digits => Some(Token::Literal(literal(digits)?)),
+        _ => None,
     }
 }
 
-/// The tokens of a text; `None` where a piece of it is no token.
-pub fn tokens_of(alloc: Global, text: &[u8]) -> Result<Option<Vec<Token>>, AllocError> {
+fn token_of(piece: &[u8]) -> Option<Token>
+    requires { 0 < length piece.now }
+    ensures { result ≡ token_read piece.now }
+{
+    if is_digit_byte(piece[0]) {
+        Some(Token::Literal(literal(piece)?))
+    } else {
+        word(piece)
+    }
+}
+
+/// The tokens that a text spells; `None` where it spells none.
+pub fn tokens_of(alloc: Global, text: &[u8]) -> Result<Option<Vec<Token>>, AllocError>
+    ensures some { IfOk result (λ read. IfSome read (λ tokens. Spells text.now tokens.items)) }
+    ensures only { IfOk result (λ read. IfSome read (λ tokens. (other : List Token) → Spells text.now other → other ≡ tokens.items)) }
+    ensures none { IfOk result (λ read. IfNone read ((tokens : List Token) → Spells text.now tokens → ⊥)) }
+{
     let mut tokens = Vec::new(alloc);
     let mut rest = text;
-    while !rest.is_empty() {
-        if is_blank(rest[0]) {
-            rest = &rest[1..];
+    while let Some((first, others)) = rest.split_first() {
+        if is_blank_byte(*first) {
+            rest = others;
             continue;
         }
         let (piece, after) = rest.split_at(piece_len(rest));

@@ -1,4 +1,4 @@
-use Rattle.std.proofs.Common.{◌≡◌, [], ◌∷◌, refl}
+use Rattle.std.proofs.Common.{◌≡◌, [], ◌∷◌}
 use Rattle.rv_model.specs.declared.instr.Instr.{Instr}
 use Rattle.effects_top.proofs.compile.emit_constant.Goals as goal
 

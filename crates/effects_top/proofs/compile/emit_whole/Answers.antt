@@ -1,5 +1,5 @@
 use Rattle.std.proofs.Common.{[]}
-use Rattle.effects_top.specs.Compiled.{entry_code, expression_code, print_code, stack_word_of, whole_code}
+use Rattle.effects_top.specs.Compiled.{entry_code, expression_code, print_code, whole_code}
 use Rattle.effects_top.proofs.Emitted.{three_parts}
 use Rattle.effects_top.proofs.compile.emit_whole.Goals as goal
 

@@ -1,0 +1,43 @@
+-- What the program promises of a file whose bytes are told: the image stands for the program that the bytes are, and the
+-- report is one of its runs.
+use Rattle.std.specs.Prelude.{◌≡◌, ℕ, List, Some}
+use Rattle.fx_base.specs.Told.{Told, Holds}
+use Rattle.effect_meaning.specs.Terms.{Place}
+use Rattle.effect_meaning.specs.Config.{Exited}
+use Rattle.effect_meaning.specs.Run.{Behaves}
+use Rattle.rv_model.specs.declared.image.Image.{Image}
+use Rattle.rv_model.specs.declared.report.Report.{Report}
+use Rattle.rv_model.specs.Machine.{words_of}
+use Rattle.rv_model.specs.Layout.{log}
+use Rattle.rv_model.specs.Run.{Reach}
+use Rattle.rv_model.specs.Serial.{Serial}
+use Rattle.serial_runner.specs.Ending.{ending}
+use Rattle.effects_top.specs.Words.{file_of}
+use Rattle.effects_top.specs.Expression.{Expression, program_of}
+use Rattle.effects_top.specs.Form.{IsFormOf}
+use Rattle.effects_top.specs.Standing.{Stands}
+
+-- the image stands for the program that the bytes of this file are, wherever its `let` stands
+pub record IsImageOf (file bytes : List ℕ) (image : Image) : Type 0 where
+  pub expression : Expression
+  pub form : IsFormOf bytes expression
+  pub stands : (at : Place) → Stands (program_of file at expression) image
+
+-- the words name this file, of which these bytes are told
+pub record IsTold (told : List ℕ → Told) (words : List (List ℕ)) (file bytes : List ℕ) : Type 0 where
+  pub named : file_of words ≡ Some file
+  pub holds : told file ≡ Holds bytes
+
+-- the report is that of the image's run in turns of so many instructions
+pub record IsRunOf (image : Image) (turns : ℕ) (r : Report) : Type 0 where
+  pub reach : Reach image r.words r.harts
+  pub serial : Serial image turns r.words r.harts
+  pub printed : r.printed ≡ log (words_of r.words)
+  pub end : r.end ≡ ending image.settings.budget (words_of r.words) r.harts
+
+-- the printed bytes and the exit's status are those of a run of the program that the bytes of this file are, with its domains
+-- interleaved
+pub record Prints (file bytes : List ℕ) (domains : ℕ) (printed : List ℕ) (status : ℕ) : Type 0 where
+  pub expression : Expression
+  pub form : IsFormOf bytes expression
+  pub behaves : (at : Place) → Behaves (program_of file at expression) domains printed (Exited status)
