@@ -1,0 +1,231 @@
+//! The top call, over files and sinks in memory.
+
+ghost use Rattle.std.specs.Prelude.{◌≡◌, None, IfOk};
+
+use effects_top::{Outcome, effects_main};
+use fx_base::{MemFiles, MemSink, NamedFile, NoGate, Refusal, Written};
+use std::alloc::{AllocError, Global};
+use std::sync::Wait;
+use std::test::Fail;
+use std::thread::Threads;
+
+/// More bytes than a write or a line here has.
+const AMPLE: usize = 4096;
+
+const ANSWER: &str = "let () = print_int (6 * (3 + 4))\n";
+
+// What fails: reads, writes and lines by their numbers; and how many bytes a write takes.
+#[derive(Clone, Copy)]
+struct Faults {
+    reads: &'static [u64],
+    writes: &'static [u64],
+    most: usize,
+    lines: &'static [u64],
+}
+
+const NONE: Faults = Faults {
+    reads: &[],
+    writes: &[],
+    most: AMPLE,
+    lines: &[],
+};
+
+// What a call leaves.
+#[derive(Drop)]
+struct Left {
+    outcome: Outcome,
+    out: MemSink,
+    err: MemSink,
+}
+
+fn words_of(alloc: Global, words: &[&str]) -> Result<Vec<String>, AllocError> {
+    let mut all = Vec::new(alloc);
+    for word in words {
+        all.push(String::from_str(alloc, word)?)?;
+    }
+    Ok(all)
+}
+
+fn one_file(alloc: Global, text: &[u8], failing: &[u64]) -> Result<MemFiles, AllocError>
+    ensures { IfOk result (λ files. files.opened ≡ None) }
+{
+    let mut files = Vec::new(alloc);
+    files.push(NamedFile {
+        name: String::from_str(alloc, "a.ml")?,
+        bytes: text.to_vec(alloc)?,
+    })?;
+    Ok(MemFiles::new(files, failing.to_vec(alloc)?))
+}
+
+fn sink(alloc: Global, failing: &[u64], most: usize) -> Result<MemSink, Refusal> {
+    MemSink::new(alloc, failing.to_vec(alloc)?, most, AMPLE)
+}
+
+// A call with these words, where the one file, a.ml, has this text.
+fn call<R: Threads + Wait>(
+    rt: &R,
+    alloc: Global,
+    words: &[&str],
+    text: &[u8],
+    faults: Faults,
+) -> Result<Left, Refusal> {
+    let words = words_of(alloc, words)?;
+    let mut files = one_file(alloc, text, faults.reads)?;
+    let mut out = sink(alloc, faults.writes, faults.most)?;
+    let mut err = sink(alloc, faults.lines, AMPLE)?;
+    let outcome = effects_main(rt, alloc, &words, &mut files, &mut out, &mut err, &NoGate);
+    Ok(Left { outcome, out, err })
+}
+
+#[test]
+fn prints_one_number(rt: HostRuntime) -> Result<(), Fail> {
+    for (text, printed) in [
+        (ANSWER, "42"),
+        ("let () = print_int (2 - 3 - 4)", "-5"),
+        (
+            "let () = print_int (4611686018427387903 + 1)",
+            "-4611686018427387904",
+        ),
+        (
+            "let () = print_int (4611686018427387903 * 4611686018427387903)",
+            "1",
+        ),
+        ("let()=print_int 0", "0"),
+    ] {
+        let left = call(&rt, rt.alloc(), &["run", "a.ml"], text.as_bytes(), NONE)?;
+        assert_eq!(rt; left.outcome.status.0, 0, "{text}");
+        assert_eq!(rt; left.outcome.written, Some(Written::Whole), "{text}");
+        assert!(rt;
+            left.outcome.image.is_some() && left.outcome.report.is_some(),
+            "{text}"
+        );
+        assert_eq!(rt; left.out.held(), printed.as_bytes(), "{text}");
+        assert_eq!(rt; left.err.held(), b"".as_slice(), "{text}");
+    }
+    Ok(())
+}
+
+#[test]
+fn refuses_words_and_texts(rt: HostRuntime) -> Result<(), Fail> {
+    let usage = (64, "error: usage\n");
+    let syntax = (65, "error: syntax at 1:1\n");
+    for (words, text, (status, line)) in [
+        (["run", "a.ml"].as_slice(), "", syntax),
+        (["run", "a.ml"].as_slice(), "let () = print_int6", syntax),
+        (
+            ["run", "a.ml"].as_slice(),
+            "let () = print_int 4611686018427387904",
+            syntax,
+        ),
+        (
+            ["run", "a.ml"].as_slice(),
+            "let () = print_int (1 2)",
+            syntax,
+        ),
+        (
+            ["run", "a.ml"].as_slice(),
+            "let () = print_int (1)) ",
+            syntax,
+        ),
+        (["run", "b.ml"].as_slice(), ANSWER, (68, "error: file\n")),
+        ([].as_slice(), ANSWER, usage),
+        (["run"].as_slice(), ANSWER, usage),
+        (["run", "-a.ml"].as_slice(), ANSWER, usage),
+        (["run", ""].as_slice(), ANSWER, usage),
+        (["run", "a.ml", "a.ml"].as_slice(), ANSWER, usage),
+        (["walk", "a.ml"].as_slice(), ANSWER, usage),
+    ] {
+        let left = call(&rt, rt.alloc(), words, text.as_bytes(), NONE)?;
+        assert_eq!(rt; left.outcome.status.0, status, "{text}");
+        assert_eq!(rt; left.outcome.written, None, "{text}");
+        assert!(rt;
+            left.outcome.image.is_none() && left.outcome.report.is_none(),
+            "{text}"
+        );
+        assert_eq!(rt; left.out.held(), b"".as_slice(), "{text}");
+        assert_eq!(rt; left.err.held(), line.as_bytes(), "{text}");
+    }
+    Ok(())
+}
+
+#[test]
+fn refuses_long_files(rt: HostRuntime) -> Result<(), Fail> {
+    for (count, status, line) in [
+        (1_048_576usize, 65, "error: syntax at 1:1\n"),
+        (1_048_577, 67, "error: limit source 1048577 1048576\n"),
+    ] {
+        let blanks = vec![in rt.alloc(); b' '; count]?;
+        let left = call(&rt, rt.alloc(), &["run", "a.ml"], &blanks, NONE)?;
+        assert_eq!(rt; left.outcome.status.0, status);
+        assert_eq!(rt; left.out.held(), b"".as_slice());
+        assert_eq!(rt; left.err.held(), line.as_bytes());
+    }
+    Ok(())
+}
+
+#[test]
+fn names_each_fault(rt: HostRuntime) -> Result<(), Fail> {
+    let file = (68, "", "error: file\n");
+    let output = "error: output\n";
+    for (faults, (status, printed, line)) in [
+        (
+            Faults {
+                reads: &[0],
+                ..NONE
+            },
+            file,
+        ),
+        (
+            Faults {
+                reads: &[1],
+                ..NONE
+            },
+            file,
+        ),
+        (
+            Faults {
+                reads: &[2],
+                ..NONE
+            },
+            (0, "42", ""),
+        ),
+        (Faults { most: 1, ..NONE }, (0, "42", "")),
+        (Faults { most: 0, ..NONE }, (69, "", output)),
+        (
+            Faults {
+                writes: &[0],
+                ..NONE
+            },
+            (69, "", output),
+        ),
+        (
+            Faults {
+                writes: &[1],
+                most: 1,
+                ..NONE
+            },
+            (69, "4", output),
+        ),
+        (
+            Faults {
+                writes: &[1],
+                ..NONE
+            },
+            (0, "42", ""),
+        ),
+        (
+            Faults {
+                reads: &[0],
+                lines: &[0],
+                ..NONE
+            },
+            (68, "", ""),
+        ),
+    ] {
+        let left = call(&rt, rt.alloc(), &["run", "a.ml"], ANSWER.as_bytes(), faults)?;
+        assert_eq!(rt; left.outcome.status.0, status, "{printed}{line}");
+        assert_eq!(rt; left.out.held(), printed.as_bytes(), "{printed}{line}");
+        assert_eq!(rt; left.err.held(), line.as_bytes(), "{printed}{line}");
+    }
+    Ok(())
+}
