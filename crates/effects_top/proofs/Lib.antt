@@ -1,4 +1,3 @@
-mod Behaving
 mod Blocks
 mod DigitLoop
 mod Digits
@@ -17,6 +16,7 @@ mod Integral
 mod LogBytes
 mod Printing
 mod Refusing
+mod Reporting
 mod Spellings
 mod Stacking
 mod Values

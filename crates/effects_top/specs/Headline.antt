@@ -1,21 +1,20 @@
--- What the program promises of a file whose bytes are told: the image stands for the program that the bytes are, and the
--- report is one of its runs.
+-- What the program promises of a file whose bytes are told: the image stands for the program that the bytes are, the
+-- report is one of its runs, and what it says is true of a run of that program.
 use Rattle.std.specs.Prelude.{◌≡◌, ℕ, List, Some}
 use Rattle.fx_base.specs.Told.{Told, Holds}
-use Rattle.effect_meaning.specs.Terms.{Place}
-use Rattle.effect_meaning.specs.Config.{Exited}
-use Rattle.effect_meaning.specs.Run.{Behaves}
+use Rattle.effect_meaning.specs.Terms.{Place, Program}
+use Rattle.effect_meaning.specs.Run.{Run}
 use Rattle.rv_model.specs.declared.image.Image.{Image}
 use Rattle.rv_model.specs.declared.report.Report.{Report}
 use Rattle.rv_model.specs.Machine.{words_of}
 use Rattle.rv_model.specs.Layout.{log}
-use Rattle.rv_model.specs.Run.{Reach}
+use Rattle.rv_model.specs.Run.{machine_of, Reach}
 use Rattle.rv_model.specs.Serial.{Serial}
 use Rattle.serial_runner.specs.Ending.{ending}
 use Rattle.effects_top.specs.Words.{file_of}
 use Rattle.effects_top.specs.Expression.{Expression, program_of}
 use Rattle.effects_top.specs.Form.{IsFormOf}
-use Rattle.effects_top.specs.Standing.{Stands}
+use Rattle.effects_top.specs.Standing.{slots_of, EndsAs, Stands}
 
 -- the image stands for the program that the bytes of this file are, wherever its `let` stands
 pub record IsImageOf (file bytes : List ℕ) (image : Image) : Type 0 where
@@ -35,9 +34,15 @@ pub record IsRunOf (image : Image) (turns : ℕ) (r : Report) : Type 0 where
   pub printed : r.printed ≡ log (words_of r.words)
   pub end : r.end ≡ ending image.settings.budget (words_of r.words) r.harts
 
--- the printed bytes and the exit's status are those of a run of the program that the bytes of this file are, with its domains
--- interleaved
-pub record Prints (file bytes : List ℕ) (domains : ℕ) (printed : List ℕ) (status : ℕ) : Type 0 where
+-- a run of the program printed the report's bytes, and its end is the report's; where the run was cut short, the row of that
+-- early end is true of it
+pub record IsReportOf (p : Program) (image : Image) (r : Report) : Type 0 where
+  pub run : Run p (slots_of image)
+  pub printed : r.printed ≡ run.last.output
+  pub ends : EndsAs p image (machine_of r.harts r.words) run (Some r.end)
+
+-- the report is that of a run of the program that the bytes of this file are, with its domains interleaved
+pub record Shows (file bytes : List ℕ) (image : Image) (r : Report) : Type 0 where
   pub expression : Expression
   pub form : IsFormOf bytes expression
-  pub behaves : (at : Place) → Behaves (program_of file at expression) domains printed (Exited status)
+  pub shows : (at : Place) → IsReportOf (program_of file at expression) image r

@@ -7,7 +7,7 @@ ghost use Rattle.rv_model.specs.Run.{Runs};
 ghost use Rattle.effects_top.specs.Words.{file_of};
 ghost use Rattle.effects_top.specs.Expression.{Expression};
 ghost use Rattle.effects_top.specs.Form.{IsFormOf};
-ghost use Rattle.effects_top.specs.Headline.{IsImageOf, IsRunOf, IsTold, Prints};
+ghost use Rattle.effects_top.specs.Headline.{IsImageOf, IsRunOf, IsTold, Shows};
 ghost use Rattle.effects_top.specs.Source.{source_limit};
 ghost use Rattle.effects_top.specs.Output.{Wrote};
 ghost use Rattle.effects_top.specs.Outcome.{other_form, IsRefusal, IsRefusedWith, Refused, Ran, run_status, run_line};
@@ -126,13 +126,12 @@ pub fn effects_main<R: Threads + Wait, F: Files, O: Sink, E: Sink, G: Gate>(
     ensures ran { (w : Written) → result.written ≡ Some w → (i : Image) × (r : Report)
         × IsRunOf i 1000 r × Ran result i r (O.held out.old) (O.held out.new) (O.faults out.old) (O.faults out.new) (E.held err.old) (E.held err.new) (E.faults err.old) (E.faults err.new) }
 
-    // Where the file's bytes are told: the image stands for the program that they are; a run that exits
-    // printed what a run of that program prints; a syntax fault comes only where they are of another form.
+    // Where the file's bytes are told: the image stands for the program that they are; the report is that
+    // of a run of that program; a syntax fault comes only where they are of another form.
     ensures stands { (file bytes : List ℕ) → IsTold (F.told files.old) (map string_bytes words.now) file bytes
         → IfSome result.image (IsImageOf file bytes) }
-    ensures behaves { (file bytes : List ℕ) → IsTold (F.told files.old) (map string_bytes words.now) file bytes
-        → (i : Image) (r : Report) (status : ℕ) → result.image ≡ Some i → result.report ≡ Some r
-        → r.end ≡ RunEnd.Exited status → Prints file bytes i.settings.domains r.printed status }
+    ensures shows { (file bytes : List ℕ) → IsTold (F.told files.old) (map string_bytes words.now) file bytes
+        → (i : Image) (r : Report) → result.image ≡ Some i → result.report ≡ Some r → Shows file bytes i r }
     ensures form { (file bytes : List ℕ) → IsTold (F.told files.old) (map string_bytes words.now) file bytes
         → IsRefusedWith result 65 → (e : Expression) → ¬ IsFormOf bytes e }
 
