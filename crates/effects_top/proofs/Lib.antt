@@ -20,4 +20,5 @@ mod Reporting
 mod Spellings
 mod Stacking
 mod Values
+mod Wording
 mod Writing

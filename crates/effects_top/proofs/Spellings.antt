@@ -9,7 +9,7 @@ use Rattle.std.proofs.Math.Seq.{take-append_seam, drop-cons}
 use Rattle.effects_top.specs.declared.token.Token.{Token}
 use Rattle.effects_top.specs.declared.token.Token.TheVariants.{Let, PrintInt, Open, Close, Equals, Plus, Minus, Times, Literal}
 use Rattle.effects_top.specs.Spelling.{is_blank, is_digit, is_word, are_digits, value_from, IsSpelling, begins_word, Spells, ended, blank, spelled}
-use Rattle.effects_top.specs.Pieces.{word_length, piece_length, integer_of, word_of, token_read}
+use Rattle.effects_top.specs.Pieces.{word_length, piece_length, decimal_of, word_of, token_read}
 
 -- the tokens so far, and those of the rest, are those of the text
 pub record SpellsOn (text rest : List ℕ) (front : List Token) : Type 0 where
@@ -145,7 +145,7 @@ spelling-read (b ∷ bs) t e = by_digit (is_digit b) refl e
         subst P (let q : Literal (value_from 0 (b ∷ bs)) ≡ t = cc in q) (p.0, refl, leb-true _ _ p.1)
     in_range false k e = absurd (cc)
 
-    by_digit : (v : Bool) → is_digit b ≡ v → (if v then option_map Literal (integer_of (b ∷ bs)) else word_of (b ∷ bs)) ≡ Some t → IsSpelling (b ∷ bs) t
+    by_digit : (v : Bool) → is_digit b ≡ v → (if v then option_map Literal (decimal_of 4611686018427387903 (b ∷ bs)) else word_of (b ∷ bs)) ≡ Some t → IsSpelling (b ∷ bs) t
     by_digit true k e = in_range _ refl e
     by_digit false k e =
         chosen (b ∷ bs) (codes "print_int") PrintInt t _ (λ s. s) (chosen (b ∷ bs) (codes "let") Let t _ (λ s. s) (chosen (b ∷ bs) (codes "(") Open t _ (λ s. s)
@@ -243,10 +243,10 @@ values_grow : (n : ℕ) (ds : List ℕ) → n ≤ value_from n ds
 values_grow n [] = omega arith
 values_grow n (d ∷ ds) = omega (arith, values_grow (n * 10 + (d - 48)) ds)
 
--- digits whose front is too large are no integer
-pub too_large : (digits : List ℕ) (value after i : ℕ) → i < length digits → after ≡ value * 10 + (get_or digits i 0 - 48) → 4611686018427387903 < after
-    → value_from 0 digits ≡ value_from value (drop i digits) → None ≡ integer_of digits
-too_large digits value after i h e l p = none (are_digits digits) _ (lt-leb (value_from 0 digits) 4611686018427387903 (rw (p, more) (omega (arith, values_grow after (drop (suc i) digits)))))
+-- digits whose front has too large a value have one
+pub too_large : (greatest : ℕ) (digits : List ℕ) (value after i : ℕ) → i < length digits → after ≡ value * 10 + (get_or digits i 0 - 48) → greatest < after
+    → value_from 0 digits ≡ value_from value (drop i digits) → None ≡ decimal_of greatest digits
+too_large greatest digits value after i h e l p = none (are_digits digits) _ (lt-leb (value_from 0 digits) greatest (rw (p, more) (omega (arith, values_grow after (drop (suc i) digits)))))
   where
     more : value_from value (drop i digits) ≡ value_from after (drop (suc i) digits)
     more = ap (value_from value) (drop-cons digits i 0 h) ∙ ap (λ (v : ℕ). value_from v (drop (suc i) digits)) (sym e)

@@ -15,9 +15,9 @@ abbrev pub piece_length : List ℕ → ℕ
 piece_length [] = 0
 piece_length (b ∷ bs) = if is_word b then suc (word_length bs) else 1
 
--- the integer of decimal digits
-abbrev pub integer_of : List ℕ → Option ℕ
-integer_of digits = if are_digits digits && nat_le (value_from 0 digits) 4611686018427387903 then Some (value_from 0 digits) else None
+-- the value of decimal digits, where it is at most the greatest
+abbrev pub decimal_of : ℕ → List ℕ → Option ℕ
+decimal_of greatest digits = if are_digits digits && nat_le (value_from 0 digits) greatest then Some (value_from 0 digits) else None
 
 -- the token of a piece that is no literal
 abbrev pub word_of : List ℕ → Option Token
@@ -34,4 +34,4 @@ word_of piece =
 -- the token that a piece is
 abbrev pub token_read : List ℕ → Option Token
 token_read [] = None
-token_read (b ∷ bs) = if is_digit b then option_map Literal (integer_of (b ∷ bs)) else word_of (b ∷ bs)
+token_read (b ∷ bs) = if is_digit b then option_map Literal (decimal_of 4611686018427387903 (b ∷ bs)) else word_of (b ∷ bs)

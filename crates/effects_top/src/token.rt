@@ -1,7 +1,7 @@
 //! The tokens of the form that compiles: `let () = print_int A`.
 
 ghost use Rattle.std.specs.Prelude.{◌≡◌, ◌<◌, ◌≤◌, List, length, IfOk, IfSome, IfNone};
-ghost use Rattle.effects_top.specs.Pieces.{word_length, piece_length, integer_of, word_of, token_read};
+ghost use Rattle.effects_top.specs.Pieces.{word_length, piece_length, decimal_of, word_of, token_read};
 ghost use Rattle.effects_top.specs.Spelling.{is_blank, is_digit, is_word, Spells};
 
 use std::alloc::{AllocError, Global};
@@ -66,9 +66,9 @@ fn piece_len(text: &[u8]) -> usize
     if word == 0 { 1 } else { word }
 }
 
-// The value of decimal digits, where it is one of an integer.
-fn literal(digits: &[u8]) -> Option<u64>
-    ensures { result ≡ integer_of digits.now }
+/// The value of decimal digits, where it is at most the greatest.
+pub fn decimal(digits: &[u8], greatest: u64) -> Option<u64>
+    ensures { result ≡ decimal_of greatest digits.now }
 {
     let mut value: u128 = 0;
     for digit in digits {
@@ -76,7 +76,7 @@ fn literal(digits: &[u8]) -> Option<u64>
             return None;
         }
         value = value * 10 + u128::from(*digit - b'0');
-        if value > u128::from(MAX_INT) {
+        if value > u128::from(greatest) {
             return None;
         }
     }
@@ -106,7 +106,7 @@ fn token_of(piece: &[u8]) -> Option<Token>
     ensures { result ≡ token_read piece.now }
 {
     if is_digit_byte(piece[0]) {
-        Some(Token::Literal(literal(piece)?))
+        Some(Token::Literal(decimal(piece, MAX_INT)?))
     } else {
         word(piece)
     }
