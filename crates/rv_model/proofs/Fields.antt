@@ -58,7 +58,7 @@ IsFixed (Jump o) = o < 2 ^ 7
 IsFixed (Atomic o f g) = (o < 2 ^ 7) × (f < 2 ^ 3) × (g < 2 ^ 5)
 IsFixed (System o) = o < 2 ^ 7
 
-bit-below : (b : Bool) → bit b < 2
+pub bit-below : (b : Bool) → bit b < 2
 bit-below true = omega arith
 bit-below false = omega arith
 
