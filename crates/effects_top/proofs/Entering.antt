@@ -6,7 +6,7 @@ use Rattle.rv_model.specs.declared.instr.Instr.{Instr}
 use Rattle.rv_model.specs.Word.{wrap}
 use Rattle.rv_model.specs.Machine.{Regs, regs_of, put, Words, hart_of}
 use Rattle.rv_model.specs.Start.{first_hart, start_words}
-use Rattle.effects_top.specs.Compiled.{start_code, constant_code, set_stack_code, entry_code, print_code, stack_word_of, start_words_of, whole_code}
+use Rattle.effects_top.specs.Compiled.{start_code, constant_code, set_stack_code, entry_code, print_code, stack_word_of, stack_words, start_words_of, whole_code}
 use Rattle.effects_top.specs.Expression.{Expression, AreIntegers, postfix_of}
 use Rattle.effects_top.proofs.Fitting.{whole_short}
 use Rattle.effects_top.proofs.Instructions.{HasAt, has_all, has_front, has_back, Good}
@@ -33,10 +33,10 @@ module _ (s : Settings) (file : List ℕ) (place : Place) (e : Expression) where
   code = whole_code s.out (postfix_of e)
 
   abbrev size : ℕ
-  size = stack_word_of s.out + s.stack
+  size = stack_word_of s.out + stack_words
 
-  pub start_good : (h n : ℕ) → AreIntegers e → length (postfix_of e) < 2000 → length (postfix_of e) ≤ s.stack → Good (stack_word_of s.out + s.stack) (whole_code s.out (postfix_of e)) (Ok file place e h s.out) Over n (hart_of (first_hart 0)) (start_words (start_words_of s)) 0
-  start_good h n small few room =
+  pub start_good : (h n : ℕ) → AreIntegers e → length (postfix_of e) < 2000 → Good (stack_word_of s.out + stack_words) (whole_code s.out (postfix_of e)) (Ok file place e h s.out) Over n (hart_of (first_hart 0)) (start_words (start_words_of s)) 0
+  start_good h n small few =
       branch_taken size code short (Ok file place e h s.out) Over n 0 2 0 0 8 r w _ has.0 refl refl (ok 0 (omega arith))
       (run_block size code short (Ok file place e h s.out) Over (constant_code (8 * stack)) n 2 1 0 r c.0 w (has_front code 2 (constant_code (8 * stack)) (set_stack_code ++ (code_of e ++ print_code)) has.1.1) c.1 (λ j l. ok (1 + j) (omega (arith, l)))
       (run_block size code short (Ok file place e h s.out) Over set_stack_code n 13 12 0 c.0 r2 w (has13.0, tt) refl (λ j l. ok (12 + j) (omega (arith, l)))
@@ -77,9 +77,6 @@ module _ (s : Settings) (file : List ℕ) (place : Place) (e : Expression) where
       least_out : 1024 ≤ s.out
       least_out = s.out_in_range.0
 
-      most_stack : s.stack ≤ 1048576
-      most_stack = s.stack_in_range.1
-
       stack_small : stack ≤ 8388753
       stack_small = omega (arith, most_out)
 
@@ -90,13 +87,13 @@ module _ (s : Settings) (file : List ℕ) (place : Place) (e : Expression) where
       logs = omega (arith, least_out)
 
       big : size ≤ 2 ^ 60
-      big = omega (arith, stack_small, most_stack)
+      big = omega (arith, stack_small)
 
       fits : stack + parts_of e ≤ size
-      fits = omega (arith, parts_length e, room)
+      fits = omega (arith, parts_length e, few)
 
       within : stack < size
-      within = omega (arith, parts_length e, parts_some e, room)
+      within = omega arith
 
       wide : 147 ≤ size
       wide = omega (arith, least_out)

@@ -10,7 +10,7 @@ use Rattle.rv_model.specs.Format.{plain}
 use Rattle.rv_model.specs.Machine.{hart_of}
 use Rattle.rv_model.specs.Start.{first_hart, start_words}
 use Rattle.effects_top.specs.declared.reader.Postfix.{Postfix}
-use Rattle.effects_top.specs.Compiled.{start_code, stack_word_of, start_words_of, whole_code}
+use Rattle.effects_top.specs.Compiled.{start_code, stack_word_of, stack_words, start_words_of, whole_code}
 use Rattle.effects_top.specs.Expression.{Expression, AreIntegers, postfix_of, program_of}
 use Rattle.effects_top.specs.Standing.{Stands}
 use Rattle.effects_top.proofs.Instructions.{HasAt, has_front, Good}
@@ -24,9 +24,9 @@ KeptBy h out file place e size code start = (n : ℕ) → Good size code (Ok fil
 
 -- an image with this code, these start words and this size stands for the program
 pub image_stands : (image : Image) (file : List ℕ) (place : Place) (e : Expression)
-    → image.code ≡ whole_code image.settings.out (postfix_of e) → image.start ≡ start_words_of image.settings → image.size ≡ stack_word_of image.settings.out + image.settings.stack
-    → AreIntegers e → length (postfix_of e) < 2000 → length (postfix_of e) ≤ image.settings.stack → Stands (program_of file place e) image
-image_stands image file place e is_code is_start is_size small few room = stands image file place e begins some good holds
+    → image.code ≡ whole_code image.settings.out (postfix_of e) → image.start ≡ start_words_of image.settings → image.size ≡ stack_word_of image.settings.out + stack_words
+    → AreIntegers e → length (postfix_of e) < 2000 → Stands (program_of file place e) image
+image_stands image file place e is_code is_start is_size small few = stands image file place e begins some good holds
   where
     begins : HasAt image.code 0 (plain Beq 0 10 0 (pos 8) ∷ plain Ecall 0 0 0 (pos 0) ∷ [])
     begins = subst (λ c. HasAt c 0 start_code) (sym is_code) (has_front (whole_code image.settings.out (postfix_of e)) 0 start_code (rest_code (8 * stack_word_of image.settings.out) e) (has_start image.settings.out e))
@@ -37,22 +37,21 @@ image_stands image file place e is_code is_start is_size small few room = stands
     good : KeptBy image.settings.domains image.settings.out file place e image.size image.code image.start
     good =
         subst (λ z. KeptBy image.settings.domains image.settings.out file place e z image.code image.start) (sym is_size)
-        (subst (λ c. KeptBy image.settings.domains image.settings.out file place e (stack_word_of image.settings.out + image.settings.stack) c image.start) (sym is_code)
-        (subst (λ w. KeptBy image.settings.domains image.settings.out file place e (stack_word_of image.settings.out + image.settings.stack) (whole_code image.settings.out (postfix_of e)) w) (sym is_start)
-        (λ n. start_good image.settings file place e image.settings.domains n small few room)))
+        (subst (λ c. KeptBy image.settings.domains image.settings.out file place e (stack_word_of image.settings.out + stack_words) c image.start) (sym is_code)
+        (subst (λ w. KeptBy image.settings.domains image.settings.out file place e (stack_word_of image.settings.out + stack_words) (whole_code image.settings.out (postfix_of e)) w) (sym is_start)
+        (λ n. start_good image.settings file place e image.settings.domains n small few)))
 
     holds : stack_word_of image.settings.out ≤ image.size
     holds = omega (arith, is_size)
 
 -- the same over the settings and the postfix order that the image was made from
 pub compiled_stands : (image : Image) (s : Settings) (ps : List Postfix) (file : List ℕ) (place : Place) (e : Expression)
-    → image.settings ≡ s → image.code ≡ whole_code s.out ps → image.start ≡ start_words_of s → image.size ≡ stack_word_of s.out + s.stack
-    → length ps < 2000 → length ps ≤ s.stack → AreIntegers e → ps ≡ postfix_of e → Stands (program_of file place e) image
-compiled_stands image s ps file place e is_settings is_code is_start is_size few room small is_postfix =
+    → image.settings ≡ s → image.code ≡ whole_code s.out ps → image.start ≡ start_words_of s → image.size ≡ stack_word_of s.out + stack_words
+    → length ps < 2000 → AreIntegers e → ps ≡ postfix_of e → Stands (program_of file place e) image
+compiled_stands image s ps file place e is_settings is_code is_start is_size few small is_postfix =
     image_stands image file place e
     (is_code ∙ ap (λ (x : Settings). whole_code x.out ps) (sym is_settings) ∙ ap (whole_code image.settings.out) is_postfix)
     (is_start ∙ ap start_words_of (sym is_settings))
-    (is_size ∙ ap (λ (x : Settings). stack_word_of x.out + x.stack) (sym is_settings))
+    (is_size ∙ ap (λ (x : Settings). stack_word_of x.out + stack_words) (sym is_settings))
     small
     (subst (λ l. length l < 2000) is_postfix few)
-    (subst (λ (x : Settings). length (postfix_of e) ≤ x.stack) (sym is_settings) (subst (λ l. length l ≤ s.stack) is_postfix room))

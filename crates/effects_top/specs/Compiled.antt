@@ -110,6 +110,10 @@ print_code = sign_code ++ (digits_code ++ (minus_code ++ end_code))
 abbrev pub stack_word_of : ℕ → ℕ
 stack_word_of out = LOG_WORD + log_words out
 
+-- the words of the stack: no expression of at most 1,000 literals needs more
+abbrev pub stack_words : ℕ
+stack_words = 2000
+
 -- the code of the image
 unfoldable pub whole_code : ℕ → List Postfix → List Instr
 whole_code out ps = entry_code (8 * stack_word_of out) ++ (expression_code ps ++ print_code)

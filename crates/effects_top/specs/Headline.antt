@@ -1,6 +1,7 @@
 -- What the program promises of a file whose bytes are told: the image stands for the program that the bytes are, the
 -- report is one of its runs, and what it says is true of a run of that program.
-use Rattle.std.specs.Prelude.{◌≡◌, ℕ, List, Some}
+use Rattle.std.specs.Prelude.{◌≡◌, ◌⊎◌, ℕ, List, Option, None, Some, IfSome, option_map}
+use Rattle.fx_base.specs.Faults.{Rose}
 use Rattle.fx_base.specs.Told.{Told, Holds}
 use Rattle.effect_meaning.specs.Terms.{Place, Program}
 use Rattle.effect_meaning.specs.Run.{Run}
@@ -11,7 +12,9 @@ use Rattle.rv_model.specs.Layout.{log}
 use Rattle.rv_model.specs.Run.{machine_of, Reach}
 use Rattle.rv_model.specs.Serial.{Serial}
 use Rattle.serial_runner.specs.Ending.{ending}
-use Rattle.effects_top.specs.Words.{file_of}
+use Rattle.effects_top.specs.declared.outcome.Outcome.{Outcome}
+use Rattle.effects_top.specs.Words.{Numbers, numbers_of, file_of, asked}
+use Rattle.effects_top.specs.Outcome.{IsRefusedWith}
 use Rattle.effects_top.specs.Expression.{Expression, program_of}
 use Rattle.effects_top.specs.Form.{IsFormOf}
 use Rattle.effects_top.specs.Standing.{slots_of, EndsAs, Stands}
@@ -24,7 +27,7 @@ pub record IsImageOf (file bytes : List ℕ) (image : Image) : Type 0 where
 
 -- the words name this file, of which these bytes are told
 pub record IsTold (told : List ℕ → Told) (words : List (List ℕ)) (file bytes : List ℕ) : Type 0 where
-  pub named : file_of words ≡ Some file
+  pub named : option_map file_of (asked words) ≡ Some file
   pub holds : told file ≡ Holds bytes
 
 -- the report is that of the image's run in turns of so many instructions
@@ -46,3 +49,15 @@ pub record Shows (file bytes : List ℕ) (image : Image) (r : Report) : Type 0 w
   pub expression : Expression
   pub form : IsFormOf bytes expression
   pub shows : (at : Place) → IsReportOf (program_of file at expression) image r
+
+-- what became of the file that a command names, with settings of these numbers: its image stands for the program that its bytes
+-- are, where they are told; a syntax fault comes only where they are of another form; each other refusal of the file has its cause
+pub record Compiles (outcome : Outcome) (name : List ℕ) (numbers : Numbers) (told : Told) (opened_now : Option (List ℕ)) (taken faults faults' : ℕ) : Type 0 where
+  pub opened : (opened_now ≡ None) ⊎ (opened_now ≡ Some name)
+  pub stands : (bytes : List ℕ) → told ≡ Holds bytes → IfSome outcome.image (IsImageOf name bytes)
+  pub settings : IfSome outcome.image (λ (i : Image). numbers_of i.settings ≡ numbers)
+  pub form : (bytes : List ℕ) → told ≡ Holds bytes → IsRefusedWith outcome 65 → (e : Expression) → IsFormOf bytes e → ⊥
+  pub usage : IsRefusedWith outcome 64 → ⊥
+  pub file : IsRefusedWith outcome 68 → Rose faults faults'
+  pub limit : IsRefusedWith outcome 67 → (opened_now ≡ Some name) × (taken ≡ 1048577)
+  pub limited : opened_now ≡ Some name → taken ≡ 1048577 → IsRefusedWith outcome 67

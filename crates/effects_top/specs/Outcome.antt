@@ -1,5 +1,5 @@
 -- What a call of the program answers.
-use Rattle.std.specs.Prelude.{◌≡◌, ℕ, ◌⊎◌, List, Option, Some, None}
+use Rattle.std.specs.Prelude.{◌≡◌, ℕ, ◌⊎◌, List, [], Option, Some, None}
 use Rattle.fx_base.specs.declared.refusal.Refusal.{Refusal}
 use Rattle.fx_base.specs.declared.refusal.Refusal.TheVariants.{Usage, File, Syntax, Memory}
 use Rattle.effects_top.specs.Source.{source_limit}
@@ -16,9 +16,9 @@ use Rattle.effects_top.specs.Output.{Wrote}
 abbrev pub other_form : Refusal
 other_form = Syntax (record { line = 1; column = 1 })
 
--- the refusals that there are
-abbrev pub IsRefusal : Refusal → Type 0
-IsRefusal refusal = (refusal ≡ Usage) ⊎ (refusal ≡ File) ⊎ (refusal ≡ source_limit) ⊎ (refusal ≡ other_form) ⊎ (refusal ≡ Memory)
+-- why a file is refused
+abbrev pub IsFileRefusal : Refusal → Type 0
+IsFileRefusal refusal = (refusal ≡ File) ⊎ (refusal ≡ source_limit) ⊎ (refusal ≡ other_form) ⊎ (refusal ≡ Memory)
 
 -- something was refused with this status
 pub record IsRefusedWith (outcome : Outcome) (number : ℕ) : Type 0 where
@@ -33,22 +33,29 @@ pub record Refused (outcome : Outcome) (refusal : Refusal) (i : Option Image) (e
   pub written : outcome.written ≡ None
   pub told : (w : Written) × Wrote err err' faults faults' (refusal_line refusal) w
 
--- the status after a run, which is that of its end unless its output isn't whole
-abbrev pub run_status : RunEnd → Written → ℕ
-run_status end Whole = end_status end
-run_status end Failed = 69
+-- the status of an answer, which is 69 where the output isn't whole
+abbrev pub answer_status : ℕ → Written → ℕ
+answer_status status Whole = status
+answer_status status Failed = 69
 
--- the line on standard error after a run
-abbrev pub run_line : RunEnd → Written → List ℕ
-run_line end Whole = end_line end
-run_line end Failed = output_line
+-- the line of an answer on standard error
+abbrev pub answer_line : List ℕ → Written → List ℕ
+answer_line line Whole = line
+answer_line line Failed = output_line
 
--- the program was run, its printed bytes were written to the output, and the line for its end to standard error
-pub record Ran (outcome : Outcome) (i : Image) (r : Report) (out out' : Option (List ℕ)) (out_faults out_faults' : ℕ) (err err' : Option (List ℕ)) (faults faults' : ℕ) : Type 0 where
+-- the program gave its answer: these bytes were written to the output, and a line to standard error
+pub record Answered (outcome : Outcome) (i : Image) (r : Option Report) (bytes : List ℕ) (number : ℕ) (line : List ℕ)
+    (out out' : Option (List ℕ)) (out_faults out_faults' : ℕ) (err err' : Option (List ℕ)) (faults faults' : ℕ) : Type 0 where
   pub wrote : Written
-  pub status : outcome.status.0 ≡ run_status r.end wrote
+  pub status : outcome.status.0 ≡ answer_status number wrote
   pub image : outcome.image ≡ Some i
-  pub report : outcome.report ≡ Some r
+  pub report : outcome.report ≡ r
   pub written : outcome.written ≡ Some wrote
-  pub printed : Wrote out out' out_faults out_faults' r.printed wrote
-  pub told : (w : Written) × Wrote err err' faults faults' (run_line r.end wrote) w
+  pub output : Wrote out out' out_faults out_faults' bytes wrote
+  pub told : (w : Written) × Wrote err err' faults faults' (answer_line line wrote) w
+
+-- the program was run: its answer is what was printed, with the status and the line of its end
+abbrev pub Ran : Outcome → Image → Report → (out out' : Option (List ℕ)) (out_faults out_faults' : ℕ) (err err' : Option (List ℕ)) (faults faults' : ℕ) → Type 0
+Ran outcome i r out out' out_faults out_faults' err err' faults faults' =
+    Answered outcome i (Some r) r.printed (end_status r.end) (end_line r.end) out out' out_faults out_faults' err err' faults faults'
+

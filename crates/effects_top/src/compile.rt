@@ -4,7 +4,7 @@ ghost use Rattle.std.specs.Prelude.{◌≡◌, ℕ, List, ◌<◌, ◌≤◌, �
 ghost use Rattle.effect_meaning.specs.Terms.{Place};
 ghost use Rattle.rv_model.specs.declared.instr.Instr.{Instr as InstrOf};
 ghost use Rattle.rv_model.specs.Format.{plain};
-ghost use Rattle.effects_top.specs.Compiled.{low_bits, constant_code, push_code, operands_code, arith_code, replace_code, postfix_code, expression_code, entry_code, print_code, stack_word_of, start_words_of, tagged, whole_code};
+ghost use Rattle.effects_top.specs.Compiled.{low_bits, constant_code, push_code, operands_code, arith_code, replace_code, postfix_code, expression_code, entry_code, print_code, stack_word_of, stack_words, start_words_of, tagged, whole_code};
 ghost use Rattle.effects_top.specs.Expression.{Expression, AreIntegers, postfix_of, program_of};
 ghost use Rattle.effects_top.specs.Standing.{Stands};
 
@@ -99,6 +99,9 @@ const PRINT: [Instr; 42] = [
     instr!(Sd, 0, 0, 5, 8),
     instr!(Ecall, 0, 0, 0, 0),
 ];
+
+/// The words of the stack: the form has at most 1,000 literals, and 999 operations between them.
+const STACK_WORDS: u64 = 2000;
 
 // The first word behind the log.
 fn stack_word(settings: &Settings) -> u64
@@ -252,16 +255,15 @@ fn start_words(alloc: Global, settings: &Settings) -> Result<Vec<StartWord>, All
 
 /// The image that prints the value of an expression.
 ///
-/// Behind the log stands the stack of hart 0, of as many words as the settings give a fiber; the
-/// postfix order must fit into it. In every order of the harts' instructions the image does what the
-/// program `let () = print_int A` does, where the postfix order is that of the expression A.
+/// Behind the log stands the stack of hart 0, of 2,000 words whatever the settings give a fiber. In
+/// every order of the harts' instructions the image does what the program `let () = print_int A` does,
+/// where the postfix order is that of the expression A.
 pub fn compile(alloc: Global, postfix: &[Postfix], settings: &Settings) -> Result<Image, AllocError>
     requires few { length postfix.now < 2000 }
-    requires stacked { length postfix.now ≤ settings.now.stack }
     ensures settings { IfOk result (λ image. image.settings ≡ settings.now) }
     ensures code { IfOk result (λ image. image.code ≡ whole_code settings.now.out postfix.now) }
     ensures start { IfOk result (λ image. image.start ≡ start_words_of settings.now) }
-    ensures size { IfOk result (λ image. image.size ≡ stack_word_of settings.now.out + settings.now.stack) }
+    ensures size { IfOk result (λ image. image.size ≡ stack_word_of settings.now.out + stack_words) }
     ensures stands { (file : List ℕ) (place : Place) (e : Expression) → AreIntegers e → postfix.now ≡ postfix_of e
         → IfOk result (λ image. Stands (program_of file place e) image) }
 {
@@ -271,6 +273,6 @@ pub fn compile(alloc: Global, postfix: &[Postfix], settings: &Settings) -> Resul
         settings: *settings,
         code: Code::new(code),
         start: Items::from_vec(start),
-        size: stack_word(settings) + settings.stack,
+        size: stack_word(settings) + STACK_WORDS,
     })
 }

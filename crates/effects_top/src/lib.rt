@@ -14,6 +14,7 @@ mod answers;
 mod compile;
 mod outcome;
 mod output;
+mod program;
 mod reader;
 mod source;
 mod token;
@@ -21,4 +22,5 @@ mod top;
 mod words;
 
 pub use outcome::Outcome;
+pub use program::{Ran, compile_file, run_file};
 pub use top::effects_main;

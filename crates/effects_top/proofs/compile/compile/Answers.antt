@@ -11,4 +11,4 @@ new-requires-clause-well_formed c = rw c.in_ok-code.ensures (whole_fits c.args.s
 
 pub returns-clause-stands : goal.returns-clause-stands
 returns-clause-stands c file place e small is =
-    compiled_stands _ c.args.settings.now c.args.postfix.now file place e refl (c.new.ensures ∙ c.in_ok-code.ensures) (c.from_vec.ensures ∙ c.in_ok-start.ensures) (ap (λ n. n + c.args.settings.now.stack) c.stack_word.ensures) c.requires.few c.requires.stacked small is
+    compiled_stands _ c.args.settings.now c.args.postfix.now file place e refl (c.new.ensures ∙ c.in_ok-code.ensures) (c.from_vec.ensures ∙ c.in_ok-start.ensures) (ap (λ n. n + 2000) c.stack_word.ensures) c.requires.few small is

@@ -2,7 +2,7 @@ use Rattle.std.proofs.Common.{◌≡◌, [], rules, ◌∙◌}
 use Rattle.effects_top.specs.Expression.{Expression, postfix_of}
 use Rattle.effects_top.specs.Form.{IsFormOf}
 use Rattle.effects_top.proofs.Integral.{form_integral}
-use Rattle.effects_top.proofs.top.image_of_text.Goals as goal
+use Rattle.effects_top.proofs.program.image_of_text.Goals as goal
 
 pub returns-clause-stands : goal.returns-clause-stands
 returns-clause-stands c = λ file.

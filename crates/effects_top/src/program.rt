@@ -1,0 +1,131 @@
+//! A file's program: its image, and a run of it.
+
+ghost use Rattle.std.specs.Prelude.{◌≡◌, ℕ, ◌≤◌, ◌⊎◌, ◌↔◌, List, None, Some, IfOk, IfErr, OnErr, IsErrOf};
+ghost use Rattle.fx_base.specs.Faults.{Rose};
+ghost use Rattle.fx_base.specs.Told.{Holds};
+ghost use Rattle.rv_model.specs.Run.{Runs};
+ghost use Rattle.effects_top.specs.Expression.{Expression};
+ghost use Rattle.effects_top.specs.Form.{IsFormOf};
+ghost use Rattle.effects_top.specs.Headline.{IsImageOf, IsRunOf, Shows};
+ghost use Rattle.effects_top.specs.Source.{source_limit};
+ghost use Rattle.effects_top.specs.Output.{Wrote};
+ghost use Rattle.effects_top.specs.Outcome.{other_form, IsFileRefusal};
+
+use crate::compile::compile;
+use crate::output::write_all;
+use crate::reader::read_form;
+use crate::source::read_source;
+use fx_base::{Files, Place, Refusal, Settings, Sink, Turns, Written};
+use rv_model::{Image, Report};
+use serial_runner::run_serial;
+use std::alloc::Global;
+
+/// A program that was run: its image, the report of the run, and whether all that it printed was
+/// written.
+#[derive(Debug, Drop)]
+pub struct Ran {
+    pub image: Image,
+    pub report: Report,
+    pub written: Written,
+}
+
+// The image of the program that a text is.
+fn image_of_text(alloc: Global, text: &[u8], settings: &Settings) -> Result<Image, Refusal>
+    ensures stands { (file : List ℕ) → IfOk result (IsImageOf file text.now) }
+    ensures runs { IfOk result (λ image. Runs image) }
+    ensures settings { IfOk result (λ image. image.settings ≡ settings.now) }
+    ensures form { IfErr result (λ refusal. refusal ≡ other_form → (e : Expression) → ¬ IsFormOf text.now e) }
+    ensures others { IfErr result (λ refusal. (refusal ≡ other_form) ⊎ (refusal ≡ Refusal.Memory)) }
+{
+    let Some(postfix) = read_form(alloc, text)? else {
+        return Err(Refusal::Syntax(Place { line: 1, column: 1 }));
+    };
+    Ok(compile(alloc, &postfix, settings)?)
+}
+
+/// The image of the program that a file holds, for these settings.
+///
+/// # Errors
+///
+/// `File` where a read fails, `Limit` where the file has more than 1,048,576 bytes, `Syntax` at 1:1
+/// where it is of another form, and `Memory`.
+pub fn compile_file<F: Files>(
+    alloc: Global,
+    files: &mut F,
+    name: &str,
+    settings: &Settings,
+) -> Result<Image, Refusal>
+    requires { F.opened files.old ≡ None }
+    ensures opened { (F.opened files.new ≡ None) ⊎ (F.opened files.new ≡ Some name.now) }
+    ensures stands { (bytes : List ℕ) → F.told files.old name.now ≡ Holds bytes → IfOk result (IsImageOf name.now bytes) }
+    ensures runs { IfOk result (λ image. Runs image) }
+    ensures settings { IfOk result (λ image. image.settings ≡ settings.now) }
+    ensures form { (bytes : List ℕ) → F.told files.old name.now ≡ Holds bytes
+        → IfErr result (λ refusal. refusal ≡ other_form → (e : Expression) → ¬ IsFormOf bytes e) }
+    ensures file { IsErrOf result Refusal.File → Rose (F.faults files.old) (F.faults files.new) }
+    ensures limit { IsErrOf result source_limit ↔ ((F.opened files.new ≡ Some name.now) × (F.taken files.new ≡ 1048577)) }
+    ensures others { IfErr result IsFileRefusal }
+    ensures faults { F.faults files.old ≤ F.faults files.new }
+{
+    let source = read_source(alloc, files, name)?;
+    image_of_text(alloc, &source, settings)
+}
+
+/// Runs an image in turns, and writes what it prints.
+///
+/// Refused only for want of memory; nothing is written then.
+pub fn run_image<O: Sink>(
+    alloc: Global,
+    image: &Image,
+    turns: Turns,
+    out: &mut O,
+) -> Result<(Report, Written), Refusal>
+    requires { Runs image.now }
+    ensures run { IfOk result (λ ran. IsRunOf image.now turns.count ran.0) }
+    ensures wrote { IfOk result (λ ran. Wrote (O.held out.old) (O.held out.new) (O.faults out.old) (O.faults out.new) ran.0.printed ran.1) }
+    ensures unwritten { OnErr result (O.held out.new ≡ O.held out.old) }
+    ensures refused { IfErr result (λ refusal. refusal ≡ Refusal.Memory) }
+{
+    let report = run_serial(alloc, image, turns)?;
+    let written = write_all(out, report.printed.as_slice());
+    Ok((report, written))
+}
+
+/// Runs the program that a file holds, in turns, and writes what it prints.
+///
+/// A failure to write doesn't cut the run short: the rest isn't written.
+///
+/// # Errors
+///
+/// Those of [`compile_file`]; nothing is written then.
+pub fn run_file<F: Files, O: Sink>(
+    alloc: Global,
+    files: &mut F,
+    name: &str,
+    settings: &Settings,
+    turns: Turns,
+    out: &mut O,
+) -> Result<Ran, Refusal>
+    requires { F.opened files.old ≡ None }
+    ensures opened { (F.opened files.new ≡ None) ⊎ (F.opened files.new ≡ Some name.now) }
+    ensures stands { (bytes : List ℕ) → F.told files.old name.now ≡ Holds bytes → IfOk result (λ ran. IsImageOf name.now bytes ran.image) }
+    ensures shows { (bytes : List ℕ) → F.told files.old name.now ≡ Holds bytes → IfOk result (λ ran. Shows name.now bytes ran.image ran.report) }
+    ensures settings { IfOk result (λ ran. ran.image.settings ≡ settings.now) }
+    ensures run { IfOk result (λ ran. IsRunOf ran.image turns.count ran.report) }
+    ensures wrote { IfOk result (λ ran. Wrote (O.held out.old) (O.held out.new) (O.faults out.old) (O.faults out.new) ran.report.printed ran.written) }
+    ensures unwritten { OnErr result (O.held out.new ≡ O.held out.old) }
+    ensures form { (bytes : List ℕ) → F.told files.old name.now ≡ Holds bytes
+        → IfErr result (λ refusal. refusal ≡ other_form → (e : Expression) → ¬ IsFormOf bytes e) }
+    ensures file { IsErrOf result Refusal.File → Rose (F.faults files.old) (F.faults files.new) }
+    ensures limit { IsErrOf result source_limit ↔ ((F.opened files.new ≡ Some name.now) × (F.taken files.new ≡ 1048577)) }
+    ensures others { IfErr result IsFileRefusal }
+    ensures faults { F.faults files.old ≤ F.faults files.new }
+{
+    let image = compile_file(alloc, files, name, settings)?;
+    let (report, written) = run_image(alloc, &image, turns, out)?;
+    Ok(Ran {
+        image,
+        report,
+        written,
+    })
+}
