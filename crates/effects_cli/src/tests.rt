@@ -106,8 +106,7 @@ fn prints_one_number(rt: HostRuntime) -> Result<(), Fail> {
 }
 
 #[test]
-fn refuses_words_and_texts(rt: HostRuntime) -> Result<(), Fail> {
-    let usage = (64, "error: usage\n");
+fn refuses_texts(rt: HostRuntime) -> Result<(), Fail> {
     let syntax = (65, "error: syntax at 1:1\n");
     for (words, text, (status, line)) in [
         (["run", "a.ml"].as_slice(), "", syntax),
@@ -128,12 +127,6 @@ fn refuses_words_and_texts(rt: HostRuntime) -> Result<(), Fail> {
             syntax,
         ),
         (["run", "b.ml"].as_slice(), ANSWER, (68, "error: file\n")),
-        ([].as_slice(), ANSWER, usage),
-        (["run"].as_slice(), ANSWER, usage),
-        (["run", "-a.ml"].as_slice(), ANSWER, usage),
-        (["run", ""].as_slice(), ANSWER, usage),
-        (["run", "a.ml", "a.ml"].as_slice(), ANSWER, usage),
-        (["walk", "a.ml"].as_slice(), ANSWER, usage),
     ] {
         let left = call(&rt, rt.alloc(), words, text.as_bytes(), NONE)?;
         assert_eq!(rt; left.outcome.status.0, status, "{text}");
@@ -144,6 +137,74 @@ fn refuses_words_and_texts(rt: HostRuntime) -> Result<(), Fail> {
         );
         assert_eq!(rt; left.out.held(), b"".as_slice(), "{text}");
         assert_eq!(rt; left.err.held(), line.as_bytes(), "{text}");
+    }
+    Ok(())
+}
+
+// The words of a text that has blanks between them.
+fn split<'a>(alloc: Global, line: &'a str) -> Result<Vec<&'a str>, AllocError> {
+    let mut words = Vec::new(alloc);
+    for word in line.split_whitespace() {
+        words.push(word)?;
+    }
+    Ok(words)
+}
+
+#[test]
+fn refuses_words(rt: HostRuntime) -> Result<(), Fail> {
+    for line in [
+        "",
+        "run",
+        "asm",
+        "walk a.ml",
+        "run -a.ml",
+        "run -- a.ml",
+        "run a.ml a.ml",
+        "run a.ml --heap",
+        "run a.ml --heap x",
+        "run a.ml --heap=",
+        "run a.ml --heap=+20000",
+        "run a.ml --heap 00000020000",
+        "run a.ml --heap 16383",
+        "run a.ml --heap 16777217",
+        "run a.ml --stack 255",
+        "run a.ml --stack 1048577",
+        "run a.ml --out 1023",
+        "run a.ml --out 67108865",
+        "run a.ml --budget 0",
+        "run a.ml --budget 4294967296",
+        "run a.ml --domains 0",
+        "run a.ml --domains 9",
+        "run a.ml --turns 0",
+        "run a.ml --turns 1000001",
+        "run a.ml --turn 5",
+        "run a.ml --heap 20000 --heap 20000",
+        "run a.ml --heap 20000 --heap=20000",
+        "asm a.ml --turns 5",
+    ] {
+        let words = split(rt.alloc(), line)?;
+        let left = call(&rt, rt.alloc(), &words, ANSWER.as_bytes(), NONE)?;
+        assert_eq!(rt; left.outcome.status.0, 64, "{line}");
+        assert_eq!(rt; left.out.held(), b"".as_slice(), "{line}");
+        assert_eq!(rt; left.err.held(), b"error: usage\n".as_slice(), "{line}");
+    }
+    Ok(())
+}
+
+#[test]
+fn takes_options(rt: HostRuntime) -> Result<(), Fail> {
+    for (line, status, printed, told) in [
+        ("run --heap=16384 a.ml --stack 256", 0, "42", ""),
+        ("run a.ml --out 1024 --domains=8 --turns 1", 0, "42", ""),
+        ("run a.ml --budget 4294967295 --turns=1000000", 0, "42", ""),
+        ("run a.ml --heap 0000016384 --domains 1", 0, "42", ""),
+        ("run a.ml --budget 1", 74, "", "error: budget spent 0 1\n"),
+    ] {
+        let words = split(rt.alloc(), line)?;
+        let left = call(&rt, rt.alloc(), &words, ANSWER.as_bytes(), NONE)?;
+        assert_eq!(rt; left.outcome.status.0, status, "{line}");
+        assert_eq!(rt; left.out.held(), printed.as_bytes(), "{line}");
+        assert_eq!(rt; left.err.held(), told.as_bytes(), "{line}");
     }
     Ok(())
 }
@@ -163,64 +224,40 @@ fn refuses_long_files(rt: HostRuntime) -> Result<(), Fail> {
     Ok(())
 }
 
+fn reading(failing: &'static [u64]) -> Faults {
+    Faults {
+        reads: failing,
+        ..NONE
+    }
+}
+
+fn writing(failing: &'static [u64], most: usize) -> Faults {
+    Faults {
+        writes: failing,
+        most,
+        ..NONE
+    }
+}
+
 #[test]
 fn names_each_fault(rt: HostRuntime) -> Result<(), Fail> {
     let file = (68, "", "error: file\n");
     let output = "error: output\n";
+    let answer = (0, "42", "");
+    let untold = Faults {
+        lines: &[0],
+        ..reading(&[0])
+    };
     for (faults, (status, printed, line)) in [
-        (
-            Faults {
-                reads: &[0],
-                ..NONE
-            },
-            file,
-        ),
-        (
-            Faults {
-                reads: &[1],
-                ..NONE
-            },
-            file,
-        ),
-        (
-            Faults {
-                reads: &[2],
-                ..NONE
-            },
-            (0, "42", ""),
-        ),
-        (Faults { most: 1, ..NONE }, (0, "42", "")),
-        (Faults { most: 0, ..NONE }, (69, "", output)),
-        (
-            Faults {
-                writes: &[0],
-                ..NONE
-            },
-            (69, "", output),
-        ),
-        (
-            Faults {
-                writes: &[1],
-                most: 1,
-                ..NONE
-            },
-            (69, "4", output),
-        ),
-        (
-            Faults {
-                writes: &[1],
-                ..NONE
-            },
-            (0, "42", ""),
-        ),
-        (
-            Faults {
-                reads: &[0],
-                lines: &[0],
-                ..NONE
-            },
-            (68, "", ""),
-        ),
+        (reading(&[0]), file),
+        (reading(&[1]), file),
+        (reading(&[2]), answer),
+        (writing(&[], 1), answer),
+        (writing(&[], 0), (69, "", output)),
+        (writing(&[0], AMPLE), (69, "", output)),
+        (writing(&[1], 1), (69, "4", output)),
+        (writing(&[1], AMPLE), answer),
+        (untold, (68, "", "")),
     ] {
         let left = call(&rt, rt.alloc(), &["run", "a.ml"], ANSWER.as_bytes(), faults)?;
         assert_eq!(rt; left.outcome.status.0, status, "{printed}{line}");
