@@ -1,3 +1,4 @@
+mod Assembling
 mod Blocks
 mod DigitLoop
 mod Digits

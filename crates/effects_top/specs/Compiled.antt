@@ -1,7 +1,9 @@
 -- The code of an expression whose value is printed: hart 0 computes it on a stack of words behind the log.
-use Rattle.std.specs.Prelude.{ℕ, ◌+◌, ◌*◌, ◌/◌, ◌%◌, ℤ, pos, negsuc, List, [], ◌∷◌, ◌++◌}
+use Rattle.std.specs.Prelude.{ℕ, ◌+◌, ◌*◌, ◌/◌, ◌%◌, ℤ, pos, negsuc, List, [], ◌∷◌, ◌++◌, map}
 use Rattle.rv_model.specs.declared.instr.Op.TheVariants.{Add, Sub, Mul, Div, Rem, Addi, Slli, Srli, Srai, Ld, Sd, Beq, Bne, Bge, Ecall}
 use Rattle.rv_model.specs.declared.instr.Instr.{Instr}
+use Rattle.rv_model.specs.declared.line.Line.{Line}
+use Rattle.rv_model.specs.declared.line.Line.TheVariants.{Plain}
 use Rattle.rv_model.specs.declared.layout.TheConstants.{LOG_WORD}
 use Rattle.rv_model.specs.declared.image.StartWord.{StartWord}
 use Rattle.fx_base.specs.declared.settings.Settings.{Settings}
@@ -117,6 +119,10 @@ stack_words = 2000
 -- the code of the image
 unfoldable pub whole_code : ℕ → List Postfix → List Instr
 whole_code out ps = entry_code (8 * stack_word_of out) ++ (expression_code ps ++ print_code)
+
+-- instructions as lines of assembly
+abbrev pub lines_of : List Instr → List Line
+lines_of code = map Plain code
 
 -- the words that aren't 0 at the start: the log's size, the one live domain, the number of harts
 abbrev pub start_words_of : Settings → List StartWord
