@@ -1,10 +1,13 @@
 -- Layouts of lines: which branches are long, and where each line begins.
-use Rattle.std.specs.Prelude.{◌≡◌, ℕ, suc, ◌+◌, ◌*◌, List, [], ◌∷◌, ◌++◌, Some, Bool, true, false, ◌&&◌, nat_le, ◌==◌, take, slice_get}
+use Rattle.std.specs.Prelude.{◌≡◌, ℕ, suc, ◌+◌, ◌*◌, ◌<◌, List, [], ◌∷◌, ◌++◌, Some, Bool, true, false, ◌&&◌, nat_le, ◌==◌, take, slice_get}
 use Rattle.std.specs.List.{position_or_len}
 use Rattle.rv_model.specs.declared.instr.Op.{Op}
 use Rattle.rv_model.specs.declared.instr.Instr.{Instr}
 use Rattle.rv_model.specs.declared.line.Line.{Line}
 use Rattle.rv_model.specs.declared.line.Line.TheVariants.{Label, Plain, Branch, Jump, Const, CodeOf}
+use Rattle.fx_base.specs.declared.refusal.LimitKind.TheVariants.{Code}
+use Rattle.fx_base.specs.declared.refusal.Refusal.{Refusal}
+use Rattle.fx_base.specs.declared.refusal.Refusal.TheVariants.{Usage, File, Syntax, Name, IllTyped, Limit, Memory}
 use Rattle.rv_asm.specs.declared.assembled.LabelPlace.{LabelPlace}
 use Rattle.rv_asm.specs.Lines.{size_of, line_code}
 
@@ -96,5 +99,21 @@ places_of long lines = places_from long 0 0 lines
 pub record Assembles (lines : List Line) (code : List Instr) (places : List LabelPlace) : Type 0 where
   pub long : Layout
   pub least : IsLeast lines long
-  pub code : code ≡ code_of long lines
-  pub places : places ≡ places_of long lines
+  pub is_code : code ≡ code_of long lines
+  pub are_places : places ≡ places_of long lines
+
+-- the layout with as few long branches as possible has so many instructions
+pub record Takes (lines : List Line) (count : ℕ) : Type 0 where
+  pub long : Layout
+  pub least : IsLeast lines long
+  pub is_count : count_of long lines ≡ count
+
+-- why lines are refused: their code would have more than 262,144 instructions; or memory is not there
+abbrev pub IsRefused : List Line → Refusal → Type 0
+IsRefused lines (Limit kind found bound) = (kind ≡ Code) × (bound ≡ 262144) × (262144 < found) × Takes lines found
+IsRefused lines Memory = Unit {0}
+IsRefused lines Usage = ⊥
+IsRefused lines File = ⊥
+IsRefused lines (Syntax place) = ⊥
+IsRefused lines (Name place) = ⊥
+IsRefused lines (IllTyped place) = ⊥

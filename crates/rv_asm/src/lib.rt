@@ -12,8 +12,8 @@
 mod assembled;
 mod assembler;
 mod constant;
-#[cfg(test)]
-mod tests;
+mod labels;
+mod layout;
 
 pub use assembled::{Assembled, LabelPlace};
 pub use assembler::assemble;

@@ -221,7 +221,7 @@ fields-parts op (System o) i e h =
 
 -- what is read from a word fits its format
 
-signed-fits : (bits n : ℕ) → (2 ^ (bits - 1) ≤ n → 2 ^ bits - 1 - n < 2 ^ (bits - 1)) → is_signed bits (signed bits n) ≡ true
+pub signed-fits : (bits n : ℕ) → (2 ^ (bits - 1) ≤ n → 2 ^ bits - 1 - n < 2 ^ (bits - 1)) → is_signed bits (signed bits n) ≡ true
 signed-fits bits n above = by (nat_lt n (2 ^ (bits - 1))) refl
   where
     by : (b : Bool) → nat_lt n (2 ^ (bits - 1)) ≡ b → is_signed bits (if b then pos n else negsuc (2 ^ bits - 1 - n)) ≡ true
