@@ -8,17 +8,9 @@ use Rattle.rv_model.specs.declared.hart.Part.TheVariants.{Word}
 use Rattle.rv_model.specs.Word.{wrap}
 use Rattle.rv_model.specs.Table.{Effect, Sets, AddsPc, Branches, Links, LinksTo, Loads, LoadsByte, Stores, Swaps, Adds, Masks, Exchanges, Calls}
 use Rattle.rv_model.specs.Machine.{Regs, put, Words, set_word, Plan, Moves, Accesses, Faults, effect_of, planned}
+use Rattle.rv_model.specs.Block.{with_sets, block}
 use Rattle.rv_model.specs.Layout.{Keeps}
 use Rattle.effects_top.proofs.Instructions.{HasAt, at, Good, goes, near, keeps_same}
-
--- what registers are after instructions that only set registers
-abbrev pub with_sets : Effect → (ℕ → Option Regs) → Option Regs
-with_sets (Sets v) go = go v
-with_sets _ go = None
-
-abbrev pub block : List Instr → Regs → Option Regs
-block [] r = Some r
-block (i ∷ is) r = with_sets (effect_of i r) (λ v. block is (put r i.rd v))
 
 -- the access at a byte address, where it is that of a word
 asks_word : (size p : ℕ) (q : ℕ → Plan) → p < size → (if ((8 * p) % 8 == 0) && nat_lt ((8 * p) / 8) size then q ((8 * p) / 8) else Faults) ≡ q p

@@ -9,7 +9,8 @@ use Rattle.rv_model.specs.Word.{wrap, quotient, remainder, negated}
 use Rattle.rv_model.specs.Machine.{Regs}
 use Rattle.effect_meaning.specs.Texts.{digits_onto}
 use Rattle.effects_top.specs.Compiled.{prepend_code}
-use Rattle.effects_top.proofs.Blocks.{block}
+use Rattle.rv_model.specs.Block.{block}
+use Rattle.effects_top.proofs.Blocks.{}
 
 -- decimal digits in front of a text
 unfoldable pub digits : ℕ → ℕ → List ℕ → List ℕ

@@ -16,7 +16,8 @@ use Rattle.effects_top.specs.declared.reader.Postfix.TheVariants.{Literal, Apply
 use Rattle.effects_top.specs.Compiled.{tagged, constant_code, push_code, operands_code, arith_code, replace_code, postfix_code, expression_code}
 use Rattle.effects_top.specs.Expression.{Expression, Number, Binary, AreIntegers, postfix_of}
 use Rattle.effects_top.proofs.Instructions.{HasAt, has_front, has_back, at, Good}
-use Rattle.effects_top.proofs.Blocks.{block, run_block, at_place, load_one, store_one}
+use Rattle.rv_model.specs.Block.{block}
+use Rattle.effects_top.proofs.Blocks.{run_block, at_place, load_one, store_one}
 use Rattle.effects_top.proofs.Integers.{on_bits}
 use Rattle.effects_top.proofs.Values.{Loaded, constant_value, arith_value, word_here, IsSame, same_set}
 use Rattle.effects_top.proofs.Evaluates.{value_bits, value_bits_small}

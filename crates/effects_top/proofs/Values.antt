@@ -7,7 +7,8 @@ use Rattle.rv_model.specs.Machine.{Regs, Words, set_word}
 use Rattle.effects_top.specs.declared.reader.Arith.{Arith}
 use Rattle.effects_top.specs.declared.reader.Arith.TheVariants.{Plus, Minus, Times}
 use Rattle.effects_top.specs.Compiled.{constant_code, arith_code}
-use Rattle.effects_top.proofs.Blocks.{block}
+use Rattle.rv_model.specs.Block.{block}
+use Rattle.effects_top.proofs.Blocks.{}
 use Rattle.effects_top.proofs.Integers.{on_bits}
 
 next_bits : (v x : ℕ) → x ≡ v / 2048 → v < 2 ^ 64 → wrap (wrap (x * 2 ^ 11) + wrap (v % 2048)) ≡ v
