@@ -180,7 +180,7 @@ op_of-parts AmoandD i = of_amoandd i.rd i.rs1 i.rs2 i.aq i.rl
 op_of-parts AmocasD i = of_amocasd i.rd i.rs1 i.rs2 i.aq i.rl
 op_of-parts Ecall i = refl
 
-fields-op : (op : Op) (f : Format) (p : Parts) → (fields op f p).op ≡ op
+pub fields-op : (op : Op) (f : Format) (p : Parts) → (fields op f p).op ≡ op
 fields-op op (Register o f g) p = refl
 fields-op op (Immediate o f) p = refl
 fields-op op (Shift o f g) p = refl
@@ -204,7 +204,7 @@ fields-registers op (Atomic o f g) p h = (h.0, h.1, h.2)
 fields-registers op (System o) p h = (lit< tt, lit< tt, lit< tt)
 
 -- with registers below 32 the parts of the word are those that were put there
-parts_of-bits_of : (i : Instr) → i.rd < 32 → i.rs1 < 32 → i.rs2 < 32 → parts_of (bits_of i) ≡ parts (format i.op) i
+pub parts_of-bits_of : (i : Instr) → i.rd < 32 → i.rs1 < 32 → i.rs2 < 32 → parts_of (bits_of i) ≡ parts (format i.op) i
 parts_of-bits_of i d a b = parts_of-packed (parts (format i.op) i) (parts-range (format i.op) i (format-fixed i.op) d a b)
 
 -- the word of an instruction has 32 bits
@@ -215,7 +215,7 @@ bits_of-below i d a b = packed-below (parts (format i.op) i) (parts-range (forma
 op_of-bits_of : (i : Instr) → i.rd < 32 → i.rs1 < 32 → i.rs2 < 32 → op_of (parts_of (bits_of i)) ≡ i.op
 op_of-bits_of i d a b = ap op_of (parts_of-bits_of i d a b) ∙ op_of-parts i.op i
 
-read_as-registers : (op : Op) (w : ℕ) → ((read_as op w).rd < 32) × ((read_as op w).rs1 < 32) × ((read_as op w).rs2 < 32)
+pub read_as-registers : (op : Op) (w : ℕ) → ((read_as op w).rd < 32) × ((read_as op w).rs1 < 32) × ((read_as op w).rs2 < 32)
 read_as-registers op w = fields-registers op (format op) (parts_of w) (omega arith, omega arith, omega arith)
 
 same_op : (op : Op) (w : ℕ) → bits_of (read_as op w) ≡ w → op_of (parts_of w) ≡ op
@@ -228,7 +228,7 @@ pub read_as-bits_of : (i : Instr) → IsWellFormed i → read_as i.op (bits_of i
 read_as-bits_of i h = ap (fields i.op (format i.op)) (parts_of-bits_of i h.0 h.1 h.2) ∙ fields-parts i.op (format i.op) i refl h.3
 
 -- where an operation stands in the table
-number : Op → ℕ
+pub number : Op → ℕ
 number Add = 0
 number Sub = 1
 number Sll = 2
@@ -278,7 +278,7 @@ number AmoandD = 45
 number AmocasD = 46
 number Ecall = 47
 
-ops-number : (op : Op) → slice_get ops (number op) ≡ Some op
+pub ops-number : (op : Op) → slice_get ops (number op) ≡ Some op
 unfolding number
 ops-number Add = refl
 ops-number Sub = refl

@@ -58,7 +58,7 @@ IsFixed (Jump o) = o < 2 ^ 7
 IsFixed (Atomic o f g) = (o < 2 ^ 7) × (f < 2 ^ 3) × (g < 2 ^ 5)
 IsFixed (System o) = o < 2 ^ 7
 
-bit-below : (b : Bool) → bit b < 2
+pub bit-below : (b : Bool) → bit b < 2
 bit-below true = omega arith
 bit-below false = omega arith
 
@@ -221,7 +221,7 @@ fields-parts op (System o) i e h =
 
 -- what is read from a word fits its format
 
-signed-fits : (bits n : ℕ) → (2 ^ (bits - 1) ≤ n → 2 ^ bits - 1 - n < 2 ^ (bits - 1)) → is_signed bits (signed bits n) ≡ true
+pub signed-fits : (bits n : ℕ) → (2 ^ (bits - 1) ≤ n → 2 ^ bits - 1 - n < 2 ^ (bits - 1)) → is_signed bits (signed bits n) ≡ true
 signed-fits bits n above = by (nat_lt n (2 ^ (bits - 1))) refl
   where
     by : (b : Bool) → nat_lt n (2 ^ (bits - 1)) ≡ b → is_signed bits (if b then pos n else negsuc (2 ^ bits - 1 - n)) ≡ true

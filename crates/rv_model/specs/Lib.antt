@@ -1,3 +1,4 @@
+pub mod Block
 pub mod Format
 pub mod Layout
 pub mod Machine

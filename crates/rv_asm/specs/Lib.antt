@@ -1,0 +1,4 @@
+pub mod Constant
+pub mod Found
+pub mod Layout
+pub mod Lines

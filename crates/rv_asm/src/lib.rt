@@ -1,0 +1,19 @@
+//! The assembler, and the listing of an image.
+//!
+//! [`assemble`] turns lines with labels into instructions: as few branches as possible stand for two
+//! instructions. [`listing`] writes an image as text, each instruction with its word.
+//!
+//! Promised: the code is that of the lines in the layout with as few long branches as possible, and
+//! each line's instructions do what the line says; two images with the same listing are equal.
+//!
+//! Stands on: `rv_table`, `rv_model` and `fx_base`, and `itoa` of the kit.
+#![tactic(auto)]
+
+mod assembled;
+mod assembler;
+mod constant;
+mod labels;
+mod layout;
+
+pub use assembled::{Assembled, LabelPlace};
+pub use assembler::assemble;
