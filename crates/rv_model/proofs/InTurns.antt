@@ -33,7 +33,8 @@ answered-retired h h' (Awaits at v) n e = by (n == v) e
 answered-retired h h' Stops n e = absurd (cc)
 answered-retired h h' Faults n e = absurd (cc)
 
-none_spent : (budget : ℕ) (l : List Hart) (i : ℕ) (h : Hart) → list_any (λ (x : Hart). x.retired == budget) l ≡ false → slice_get l i ≡ Some h → h.retired ≢ budget
+-- where no budget is spent, that of this hart isn't
+pub none_spent : (budget : ℕ) (l : List Hart) (i : ℕ) (h : Hart) → list_any (λ (x : Hart). x.retired == budget) l ≡ false → slice_get l i ≡ Some h → h.retired ≢ budget
 none_spent budget [] i h e at = absurd (cc)
 none_spent budget (x ∷ l) zero h e at = eqb-false h.retired budget (sym (ap (λ (y : Hart). y.retired == budget) (some_is x h at)) ∙ left (x.retired == budget) (list_any (λ (y : Hart). y.retired == budget) l) e)
   where

@@ -6,6 +6,7 @@ pub mod ExamplesSteps
 pub mod ExamplesWords
 pub mod Fields
 pub mod InTurns
+pub mod Keeping
 pub mod Lists
 pub mod Plans
 pub mod Reaching

@@ -57,3 +57,11 @@ IsFound n (Awaits at v) w = IsWordOf n at w
 IsFound n (Moves to r) w = Unit {0}
 IsFound n Stops w = Unit {0}
 IsFound n Faults w = Unit {0}
+
+-- the plan awaits a change of a word that has the value, where n is the word that was found
+abbrev pub IsWaiting : Plan → ℕ → Type 0
+IsWaiting (Awaits at v) n = n ≡ v
+IsWaiting (Moves to r) n = ⊥
+IsWaiting (Accesses a rd part) n = ⊥
+IsWaiting Stops n = ⊥
+IsWaiting Faults n = ⊥

@@ -1,10 +1,10 @@
 //! One instruction of a hart.
 
-ghost use Rattle.std.specs.Prelude.{◌≡◌, ◌≢◌, ◌<◌, ◌≤◌, ◌+◌, ◌^◌, IfSome};
+ghost use Rattle.std.specs.Prelude.{◌≡◌, ◌≢◌, ◌↔◌, ◌<◌, ◌≤◌, ◌+◌, ◌^◌, IfSome};
 ghost use Rattle.rv_model.specs.Machine as spec;
 ghost use Rattle.rv_model.specs.Machine.{hart_of};
 ghost use Rattle.rv_step.specs.Seen.{seen_turn, IsPartInRange};
-ghost use Rattle.rv_step.specs.Told.{told_after, told_then, IsFound, IsJust, IsWordOf, HasAnswer, after};
+ghost use Rattle.rv_step.specs.Told.{told_after, told_then, IsFound, IsJust, IsWordOf, HasAnswer, IsWaiting, after};
 
 use crate::arithmetic::power;
 use crate::memory::Memory;
@@ -85,13 +85,18 @@ fn make<M: Memory>(code: &Code, hart: &Hart, memory: &mut M, access: Access) -> 
 /// One instruction of a hart.
 ///
 /// The clauses `turn` and `told` say what it does at the word that the last access gave, and `found` that
-/// this is the word of the place, where the words are told.
+/// this is the word of the place, where the words are told. It waits exactly at an await whose word has the
+/// value, stops exactly at a stop, and is at fault exactly where the definition has no step for another
+/// reason; nothing is changed then.
 pub fn step<M: Memory>(code: &Code, hart: &mut Hart, memory: &mut M) -> Turn
     requires led { M.leads memory.old code.now (hart_of hart.old) }
     requires below { hart.old.retired < M.most memory.old }
     ensures turn { seen_turn result (hart_of hart.new) ≡ spec.answered (hart_of hart.old) (spec.plan (M.extent memory.old) code.now (hart_of hart.old)) (M.last memory.new) }
     ensures told { M.words memory.new ≡ told_then (spec.plan (M.extent memory.old) code.now (hart_of hart.old)) (spec.answered (hart_of hart.old) (spec.plan (M.extent memory.old) code.now (hart_of hart.old)) (M.last memory.new)) (M.words memory.old) }
     ensures found { IsFound (M.last memory.new) (spec.plan (M.extent memory.old) code.now (hart_of hart.old)) (M.words memory.old) }
+    ensures waits { result ≡ Turn.Waits ↔ IsWaiting (spec.plan (M.extent memory.old) code.now (hart_of hart.old)) (M.last memory.new) }
+    ensures stopped { result ≡ Turn.Stopped ↔ spec.plan (M.extent memory.old) code.now (hart_of hart.old) ≡ spec.Stops }
+    ensures fault { result ≡ Turn.Fault ↔ spec.plan (M.extent memory.old) code.now (hart_of hart.old) ≡ spec.Faults }
     ensures retired { hart.new.retired ≤ hart.old.retired + 1 }
     ensures unchanged { result ≢ Turn.Went → (hart.new ≡ hart.old) × (M.words memory.new ≡ M.words memory.old) }
     ensures same { (M.extent memory.new ≡ M.extent memory.old) × (M.most memory.new ≡ M.most memory.old) × (M.kept memory.new ≡ M.kept memory.old) }

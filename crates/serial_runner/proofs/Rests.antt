@@ -1,5 +1,5 @@
 -- Turns and rounds, instruction by instruction.
-use Rattle.std.proofs.Common.{◌≡◌, ℕ, zero, suc, ◌+◌, ◌<◌, ◌≤◌, List, [], ◌∷◌, Option, Some, None, Bool, true, false, length, map, inl, inr, ◌⊎◌, refl, sym, ap, ◌∙◌, subst, arith}
+use Rattle.std.proofs.Common.{◌≡◌, ◌≢◌, ℕ, zero, suc, ◌+◌, ◌<◌, ◌≤◌, List, [], ◌∷◌, Option, Some, None, Bool, true, false, length, map, inl, inr, ◌⊎◌, refl, sym, ap, ◌∙◌, subst, arith}
 use Rattle.std.specs.Prelude.{slice_get, IsTrue, IsFalse, if◌then◌else◌}
 use Rattle.std.proofs.lemmas.Bool.{cases_lt}
 use Rattle.std.proofs.lemmas.Option.{slice_get_within}
@@ -8,10 +8,13 @@ use Rattle.rv_model.specs.declared.hart.Hart.{Hart as HartState}
 use Rattle.rv_model.specs.Machine.{hart_of, Hart, Plan, Move, Goes, Waits, Stopped, Fault, plan}
 use Rattle.rv_model.specs.Run.{Machine, hart_step, turned, turn_of, move_of}
 use Rattle.rv_model.specs.Serial.{is_over, goes, turn, turns_from, rounds, IsAtRest}
+use Rattle.serial_runner.specs.declared.turns.Course.{Course}
+use Rattle.serial_runner.specs.declared.turns.Course.TheVariants as course
+use Rattle.serial_runner.specs.Courses.{is_going}
 use Rattle.serial_runner.specs.Turns.{IsStep, IsStill, HasNoStep}
 
 -- a hart that has no step changes nothing
-no_step : (image : Image) (i : ℕ) (s : Machine) → ((h : Hart) → slice_get s.harts i ≡ Some h → IsFalse (goes (move_of image s.words h))) → hart_step image i s ≡ s
+no_step : (image : Image) (i : ℕ) (s : Machine) → HasNoStep image i s → hart_step image i s ≡ s
 no_step image i s none = by (slice_get s.harts i) refl
   where
     by_move : (p : Plan) (m : Move) → IsFalse (goes m) → turned s i p m ≡ s
@@ -29,12 +32,17 @@ pub turn_step : (image : Image) (n i : ℕ) (s s' : Machine) → IsStep image i 
 unfolding turn
 turn_step image n i s s' one = ap (λ b. if b then s else turn image n i (hart_step image i s)) one.running ∙ ap (turn image n i) (sym one.next)
 
+-- a turn in a run that is over
+pub turn_over : (image : Image) (n i : ℕ) (s : Machine) → IsTrue (is_over image s) → turn image n i s ≡ s
+unfolding turn
+turn_over image zero i s over = refl
+turn_over image (suc n) i s over = ap (λ b. if b then s else turn image n i (hart_step image i s)) over
+
 -- a turn without an instruction
 pub turn_still : (image : Image) (n i : ℕ) (s : Machine) → HasNoStep image i s → turn image n i s ≡ s
 unfolding turn
 turn_still image zero i s none = refl
-turn_still image (suc n) i s (inl over) = ap (λ b. if b then s else turn image n i (hart_step image i s)) over
-turn_still image (suc n) i s (inr none) = by (is_over image s) (ap (turn image n i) (no_step image i s none) ∙ turn_still image n i s (inr none))
+turn_still image (suc n) i s none = by (is_over image s) (ap (turn image n i) (no_step image i s none) ∙ turn_still image n i s none)
   where
     by : (b : Bool) → turn image n i (hart_step image i s) ≡ s → (if b then s else turn image n i (hart_step image i s)) ≡ s
     by true e = refl
@@ -44,6 +52,12 @@ turn_still image (suc n) i s (inr none) = by (is_over image s) (ap (turn image n
 pub turns_next : (image : Image) (turns i n : ℕ) (s s' : Machine) → s' ≡ turn image turns i s → turns_from image turns i (suc n) s ≡ turns_from image turns (suc i) n s'
 unfolding turns_from
 turns_next image turns i n s s' e = ap (turns_from image turns (suc i) n) (sym e)
+
+-- the turns of a run that is over
+pub turns_over : (image : Image) (turns i n : ℕ) (s : Machine) → IsTrue (is_over image s) → turns_from image turns i n s ≡ s
+unfolding turns_from
+turns_over image turns i zero s over = refl
+turns_over image turns i (suc n) s over = ap (turns_from image turns (suc i) n) (turn_over image turns i s over) ∙ turns_over image turns (suc i) n s over
 
 pub turns_none : (image : Image) (turns i : ℕ) (s : Machine) → turns_from image turns i 0 s ≡ s
 unfolding turns_from
@@ -65,28 +79,26 @@ count_seen (h ∷ l) = ap suc (count_seen l)
 
 -- where no hart has a step, the run is at rest
 pub at_rest : (image : Image) (s : Machine) (n : ℕ) → length s.harts ≡ n → ((i : ℕ) → i < n → HasNoStep image i s) → IsAtRest image s
-at_rest image s n count none = by (is_over image s) refl
-  where
-    apart : (b : Bool) → b ≡ false → IsTrue b → ⊥
-    apart true e t = cc
-    apart false e t = cc
-
-    each : is_over image s ≡ false → (i : ℕ) (h : Hart) → slice_get s.harts i ≡ Some h → HasNoStep image i s → IsFalse (goes (move_of image s.words h))
-    each running i h at (inl over) = absurd (apart (is_over image s) running over)
-    each running i h at (inr f) = f h at
-
-    by : (b : Bool) → is_over image s ≡ b → IsAtRest image s
-    by true e = inl e
-    by false e = inr (λ i h at. each e i h at (none i (let lt = slice_get_within s.harts i h at in omega (arith, lt, count))))
+at_rest image s n count none = inr (λ i h at. none i (let lt = slice_get_within s.harts i h at in omega (arith, lt, count)) h at)
 
 pub turn_none : (image : Image) (i : ℕ) (s : Machine) → turn image 0 i s ≡ s
 unfolding turn
 turn_none image i s = refl
 
 -- one hart more that has no step
-pub still_below : (image : Image) (k : ℕ) (s s' s0 : Machine) → IsStill image k s s' → s ≡ s0 → ((i : ℕ) → i < k → HasNoStep image i s) → (s' ≡ s0) × ((i : ℕ) → i < k + 1 → HasNoStep image i s')
-still_below image k s s' s0 still e below = (still.same ∙ e, λ i lt. subst (HasNoStep image i) (sym still.same) (by i (cases_lt i k) lt))
+pub still_below : (image : Image) (k : ℕ) (s s' : Machine) → IsStill image k s s' → ((i : ℕ) → i < k → HasNoStep image i s) → (i : ℕ) → i < k + 1 → HasNoStep image i s'
+still_below image k s s' still below i more = subst (HasNoStep image i) (sym still.same) (by (cases_lt i k))
   where
-    by : (i : ℕ) → (i < k) ⊎ (k ≤ i) → i < k + 1 → HasNoStep image i s
-    by i (inl lt) more = below i lt
-    by i (inr ge) more = subst (λ j. HasNoStep image j s) (let same : k ≡ i = omega (arith, ge, more) in same) still.none
+    by : (i < k) ⊎ (k ≤ i) → HasNoStep image i s
+    by (inl lt) = below i lt
+    by (inr ge) = subst (λ j. HasNoStep image j s) (let same : k ≡ i = omega (arith, ge, more) in same) still.none
+
+pub going : (c : Course) → IsTrue (is_going c) → c ≡ course.Went
+going course.Went e = refl
+going course.Still e = absurd (cc)
+going course.Over e = absurd (cc)
+
+pub not_going : (c : Course) → IsFalse (is_going c) → c ≢ course.Went
+not_going course.Went e is = cc
+not_going course.Still e is = cc
+not_going course.Over e is = cc

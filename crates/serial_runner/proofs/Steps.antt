@@ -1,5 +1,5 @@
 -- One instruction of a hart over words in a vector.
-use Rattle.std.proofs.Common.{◌≡◌, ◌≢◌, ℕ, ◌+◌, ◌≤◌, List, Option, Some, None, length, map, inr, length-set, refl, sym, ap, ◌∙◌, subst, arith}
+use Rattle.std.proofs.Common.{◌≡◌, ◌≢◌, ℕ, ◌+◌, ◌≤◌, List, Option, Some, None, length, map, length-set, refl, sym, ap, ◌∙◌, subst, arith}
 use Rattle.std.specs.Prelude.{slice_get, slice_set, IsTrue, IsFalse}
 use Rattle.rv_model.specs.declared.image.Image.{Image}
 use Rattle.rv_model.specs.declared.instr.Instr.{Instr}
@@ -12,13 +12,13 @@ use Rattle.rv_model.specs.Serial.{is_over, goes}
 use Rattle.rv_model.proofs.Lists.{map_get, map_set, set_same}
 use Rattle.rv_model.proofs.Plans.{IsForRegisters, plan_registers}
 use Rattle.rv_model.specs.Word.{bit}
-use Rattle.serial_runner.proofs.Counts.{total_set, within_set, below_budget}
+use Rattle.serial_runner.proofs.Counts.{total_set, retired_get, retired_set, within_set, below_budget}
 use Rattle.rv_model.proofs.InTurns.{answered-retired}
 use Rattle.rv_step.specs.declared.instruction.Turn.{Turn}
 use Rattle.rv_step.specs.declared.instruction.Turn.TheVariants as turn
 use Rattle.rv_step.specs.Seen.{seen_turn}
 use Rattle.rv_step.specs.Told.{told_then, IsFound}
-use Rattle.serial_runner.specs.Turns.{IsReady, IsStep, IsStill, is_went, total}
+use Rattle.serial_runner.specs.Turns.{IsReady, IsStep, IsStill, is_went, total, retired_at}
 
 -- the word that was found is the one that the definition reads
 pub found_step : (h : Hart) (p : Plan) (w : Words) (n : ℕ) → IsForRegisters p → IsFound n p (Some w) → answered h p n ≡ answered h p (word_at p w)
@@ -94,24 +94,31 @@ steps image hs i h h' ws ws' t at it running f = record {
   next = went_on image hs i h h' ws ws' at (subst (Told image.size image.code h h' ws ws') (went_is t f) it);
 }
 
--- the counts of all harts after a step
-pub counted : (size : ℕ) (code : List Instr) (hs : List HartState) (i : ℕ) (h h' : HartState) (ws ws' : List ℕ) (t : Turn) → slice_get hs i ≡ Some h → Told size code h h' ws ws' t → total hs + bit (is_went t) ≤ total (slice_set hs i h')
-counted size code hs i h h' ws ws' t at it = by t it
+differ : (t : Turn) → IsFalse (is_went t) → t ≢ turn.Went
+differ turn.Went f e = cc
+differ turn.Waits f e = cc
+differ turn.Stopped f e = cc
+differ turn.Fault f e = cc
+
+-- the hart's count after a turn
+count_after : (size : ℕ) (code : List Instr) (h h' : HartState) (ws ws' : List ℕ) (t : Turn) → Told size code h h' ws ws' t → h'.retired ≡ h.retired + bit (is_went t)
+count_after size code h h' ws ws' t it = by t it
   where
-    differ : (t : Turn) → IsFalse (is_went t) → t ≢ turn.Went
-    differ turn.Went f e = cc
-    differ turn.Waits f e = cc
-    differ turn.Stopped f e = cc
-    differ turn.Fault f e = cc
+    same : h' ≡ h → h'.retired ≡ h.retired + 0
+    same e = let n : h'.retired ≡ h.retired = ap (λ (y : HartState). y.retired) e in omega (arith, n)
 
-    same : h' ≡ h → total hs + 0 ≤ total (slice_set hs i h')
-    same e = let n : h'.retired ≡ h.retired = ap (λ (y : HartState). y.retired) e in let m = total_set hs i h h' at in omega (arith, n, m)
-
-    by : (t : Turn) → Told size code h h' ws ws' t → total hs + bit (is_went t) ≤ total (slice_set hs i h')
-    by turn.Went x = let n = went_count size code h h' ws ws' x in let m = total_set hs i h h' at in omega (arith, n, m)
+    by : (t : Turn) → Told size code h h' ws ws' t → h'.retired ≡ h.retired + bit (is_went t)
+    by turn.Went x = went_count size code h h' ws ws' x
     by turn.Waits x = same (x.unchanged (differ turn.Waits refl))
     by turn.Stopped x = same (x.unchanged (differ turn.Stopped refl))
     by turn.Fault x = same (x.unchanged (differ turn.Fault refl))
+
+-- the counts of all harts after a step
+pub counted : (size : ℕ) (code : List Instr) (hs : List HartState) (i : ℕ) (h h' : HartState) (ws ws' : List ℕ) (t : Turn) → slice_get hs i ≡ Some h → Told size code h h' ws ws' t → total hs + bit (is_went t) ≤ total (slice_set hs i h')
+counted size code hs i h h' ws ws' t at it = let n = count_after size code h h' ws ws' t it in let m = total_set hs i h h' at in omega (arith, n, m)
+
+pub counted_at : (size : ℕ) (code : List Instr) (hs : List HartState) (i : ℕ) (h h' : HartState) (ws ws' : List ℕ) (t : Turn) → slice_get hs i ≡ Some h → Told size code h h' ws ws' t → retired_at i (slice_set hs i h') ≡ retired_at i hs + bit (is_went t)
+counted_at size code hs i h h' ws ws' t at it = let n = count_after size code h h' ws ws' t it in let m = retired_set hs i h h' at in let k = retired_get hs i h at in omega (arith, n, m, k)
 
 -- the harts and words after a step
 pub ready_after : (image : Image) (hs : List HartState) (i : ℕ) (h h' : HartState) (ws ws' : List ℕ) → slice_get hs i ≡ Some h → IsReady image hs ws → IsFalse (is_over image (machine_of hs ws)) → h'.retired ≤ h.retired + 1 → length ws' ≡ length ws → IsReady image (slice_set hs i h') ws'
@@ -121,18 +128,13 @@ ready_after image hs i h h' ws ws' at ready running more size = record {
   within = within_set image.settings.budget hs i h h' at ready.within (let b = below_budget image hs ws i h ready running at in omega (arith, b, more));
 }
 
-pub still : (image : Image) (hs : List HartState) (i : ℕ) (h h' : HartState) (ws ws' : List ℕ) (t : Turn) → slice_get hs i ≡ Some h → Told image.size image.code h h' ws ws' t → IsFalse (is_went t) → IsStill image i (machine_of hs ws) (machine_of (slice_set hs i h') ws')
-still image hs i h h' ws ws' t at it f = record {
-  none = inr none;
+pub still : (image : Image) (hs : List HartState) (i : ℕ) (h h' : HartState) (ws ws' : List ℕ) (t : Turn) → slice_get hs i ≡ Some h → Told image.size image.code h h' ws ws' t → IsFalse (is_over image (machine_of hs ws)) → IsFalse (is_went t) → IsStill image i (machine_of hs ws) (machine_of (slice_set hs i h') ws')
+still image hs i h h' ws ws' t at it running f = record {
+  running = running;
+  none = none;
   same = λ j. record { words = still_words image.size image.code h h' ws ws' t it f j; harts = ap (map hart_of) (ap (slice_set hs i) (it.unchanged (differ t f)) ∙ set_same hs i h at) j };
 }
   where
-    differ : (t : Turn) → IsFalse (is_went t) → t ≢ turn.Went
-    differ turn.Went f e = cc
-    differ turn.Waits f e = cc
-    differ turn.Stopped f e = cc
-    differ turn.Fault f e = cc
-
     some_is : (x y : Hart) → Some x ≡ Some y → x ≡ y
     some_is x y e = cc
 

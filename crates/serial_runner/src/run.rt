@@ -1,13 +1,14 @@
 //! Runs an image.
 
-ghost use Rattle.std.specs.Prelude.{◌≡◌, length, IfOk, IfErr, vec_len};
+ghost use Rattle.std.specs.Prelude.{◌≡◌, ℕ, ◌↔◌, length, IfOk, IfErr, vec_len};
 ghost use Rattle.fx_base.specs.declared.refusal.Refusal.TheVariants.{Memory as NoMemory};
+ghost use Rattle.rv_model.specs.declared.report.RunEnd.TheVariants.{BudgetSpent, Deadlock};
 ghost use Rattle.rv_model.specs.Machine.{words_of};
 ghost use Rattle.rv_model.specs.Layout.{log as log_of};
 ghost use Rattle.rv_model.specs.Start.{first_harts, start_words};
 ghost use Rattle.rv_model.specs.Run.{Runs, Reach};
 ghost use Rattle.rv_model.specs.Serial.{Serial};
-ghost use Rattle.serial_runner.specs.Ending.{ending};
+ghost use Rattle.serial_runner.specs.Ending.{ending, IsBudgetSpent, IsDeadlocked};
 
 use crate::ending::{printed, read_end};
 use crate::turns::take_rounds;
@@ -35,6 +36,8 @@ fn run(
     ensures reach { Reach image.now result.words result.harts }
     ensures printed { result.printed ≡ log_of (words_of result.words) }
     ensures end { result.end ≡ ending image.now.settings.budget (words_of result.words) result.harts }
+    ensures budget_spent { (hart count : ℕ) → result.end ≡ BudgetSpent hart count ↔ ((count ≡ image.now.settings.budget) × IsBudgetSpent image.now result.words result.harts hart) }
+    ensures deadlock { result.end ≡ Deadlock ↔ IsDeadlocked image.now result.words result.harts }
 {
     let mut memory = VecMemory::new(words);
     take_rounds(image, &mut harts, &mut memory, turns);
@@ -58,6 +61,8 @@ pub fn run_serial(alloc: Global, image: &Image, turns: Turns) -> Result<Report, 
     ensures reach { IfOk result (λ report. Reach image.now report.words report.harts) }
     ensures printed { IfOk result (λ report. report.printed ≡ log_of (words_of report.words)) }
     ensures end { IfOk result (λ report. report.end ≡ ending image.now.settings.budget (words_of report.words) report.harts) }
+    ensures budget_spent { IfOk result (λ report. (hart count : ℕ) → report.end ≡ BudgetSpent hart count ↔ ((count ≡ image.now.settings.budget) × IsBudgetSpent image.now report.words report.harts hart)) }
+    ensures deadlock { IfOk result (λ report. report.end ≡ Deadlock ↔ IsDeadlocked image.now report.words report.harts) }
     ensures refused { IfErr result (λ refusal. refusal ≡ NoMemory) }
 {
     let words = image.first_words(alloc)?;

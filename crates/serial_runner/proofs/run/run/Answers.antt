@@ -3,6 +3,8 @@ use Rattle.rv_model.specs.Machine.{words_of}
 use Rattle.rv_model.specs.Layout.{IsSound}
 use Rattle.rv_model.proofs.InTurns.{serial_reaches}
 use Rattle.serial_runner.proofs.Opening.{front, ready_first, serial_sound, serial_at}
+use Rattle.serial_runner.specs.Ending.{ending}
+use Rattle.serial_runner.proofs.Causes.{budget_spent, deadlock}
 use Rattle.serial_runner.proofs.run.run.Goals as goal
 
 pub take_rounds-requires-clause-ready : goal.take_rounds-requires-clause-ready
@@ -27,3 +29,13 @@ returns-clause-serial c =
 
 pub returns-clause-reach : goal.returns-clause-reach
 returns-clause-reach c = serial_reaches c.args.image.now c.args.turns.count c.from_vec-3.result c.from_vec-2.result (returns-clause-serial c)
+
+pub returns-clause-budget_spent : goal.returns-clause-budget_spent
+returns-clause-budget_spent c =
+    let end : c.read_end-end.result ≡ ending c.args.image.now.settings.budget (words_of c.from_vec-3.result) c.from_vec-2.result = search rules in
+    budget_spent c.args.image.now c.args.turns.count c.from_vec-3.result c.from_vec-2.result c.requires.runs (returns-clause-serial c) c.read_end-end.result end
+
+pub returns-clause-deadlock : goal.returns-clause-deadlock
+returns-clause-deadlock c =
+    let end : c.read_end-end.result ≡ ending c.args.image.now.settings.budget (words_of c.from_vec-3.result) c.from_vec-2.result = search rules in
+    deadlock c.args.image.now c.args.turns.count c.from_vec-3.result c.from_vec-2.result c.requires.runs (returns-clause-serial c) c.read_end-end.result end

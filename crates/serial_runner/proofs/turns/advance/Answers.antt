@@ -3,9 +3,9 @@ use Rattle.std.specs.Prelude.{Some, slice_get, slice_index_or, slice_set}
 use Rattle.std.proofs.lemmas.Option.{slice_get-get_or}
 use Rattle.rv_model.specs.declared.hart.Hart.{Hart}
 use Rattle.rv_model.specs.Word.{bit}
-use Rattle.serial_runner.specs.Turns.{total}
-use Rattle.serial_runner.proofs.Counts.{below_budget}
-use Rattle.serial_runner.proofs.Steps.{Told, steps, still, counted, ready_after}
+use Rattle.serial_runner.specs.Turns.{total, retired_at}
+use Rattle.serial_runner.proofs.Counts.{below_budget, over_by}
+use Rattle.serial_runner.proofs.Steps.{Told, steps, still, counted, counted_at, ready_after}
 use Rattle.serial_runner.proofs.turns.advance.Goals.{After-is_went}
 use Rattle.serial_runner.proofs.turns.advance.Goals as goal
 
@@ -41,7 +41,13 @@ pub returns-clause-went : goal.returns-clause-went
 returns-clause-went c went = steps c.args.image.now c.args.harts.now c.args.number (hart_at c) c.step.new.hart c.args.memory.now.words.items c.step.new.memory.words.items c.step.result (here c) (told c) c.requires.running (sym c.is_went.ensures ∙ went)
 
 pub returns-clause-stays : goal.returns-clause-stays
-returns-clause-stays c stays = still c.args.image.now c.args.harts.now c.args.number (hart_at c) c.step.new.hart c.args.memory.now.words.items c.step.new.memory.words.items c.step.result (here c) (told c) (sym c.is_went.ensures ∙ stays)
+returns-clause-stays c stays = still c.args.image.now c.args.harts.now c.args.number (hart_at c) c.step.new.hart c.args.memory.now.words.items c.step.new.memory.words.items c.step.result (here c) (told c) c.requires.running (sym c.is_went.ensures ∙ stays)
 
 pub returns-clause-total : goal.returns-clause-total
 returns-clause-total c = subst (λ b. total c.args.harts.now + bit b ≤ total (slice_set c.args.harts.now c.args.number c.step.new.hart)) (sym c.is_went.ensures) (counted c.args.image.now.size c.args.image.now.code c.args.harts.now c.args.number (hart_at c) c.step.new.hart c.args.memory.now.words.items c.step.new.memory.words.items c.step.result (here c) (told c))
+
+pub returns-clause-count : goal.returns-clause-count
+returns-clause-count c = subst (λ b. retired_at c.args.number (slice_set c.args.harts.now c.args.number c.step.new.hart) ≡ retired_at c.args.number c.args.harts.now + bit b) (sym c.is_went.ensures) (counted_at c.args.image.now.size c.args.image.now.code c.args.harts.now c.args.number (hart_at c) c.step.new.hart c.args.memory.now.words.items c.step.new.memory.words.items c.step.result (here c) (told c))
+
+pub returns-clause-over : goal.returns-clause-over
+returns-clause-over c = over_by c.args.image.now c.args.harts.now c.args.memory.now.words.items c.step.new.memory.words.items c.args.number (hart_at c) c.step.new.hart c.requires.running (here c)

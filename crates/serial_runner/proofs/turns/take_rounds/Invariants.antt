@@ -1,4 +1,4 @@
-use Rattle.std.proofs.Common.{◌≡◌, ◌*◌, ◌-◌, ℕ}
+use Rattle.std.proofs.Common.{◌≡◌, ◌*◌, ◌-◌, ℕ, IsFalse}
 use Rattle.rv_model.specs.Run.{machine_of, first}
 use Rattle.rv_model.specs.Serial as serial
 use Rattle.serial_runner.specs.Turns.{IsReady, total}
@@ -8,6 +8,7 @@ use Rattle.serial_runner.proofs.turns.take_rounds.Given as goal
 abbrev pub invariant-loop-turns : goal.invariant-loop-turns
 invariant-loop-turns l =
     IsReady l.image l.harts l.memory.words.items
+    × IsFalse (serial.is_over l.image (machine_of l.harts l.memory.words.items))
     × (n : ℕ) × (serial.rounds l.image l.turns.count n (first l.image) ≡ machine_of l.harts l.memory.words.items)
 
 -- the instructions that all harts may still take
