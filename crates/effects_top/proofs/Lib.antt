@@ -7,6 +7,7 @@ mod Ending
 mod Entering
 mod Evaluates
 mod EveryList
+mod ExampleWords
 mod Filling
 mod Fitting
 mod Forms

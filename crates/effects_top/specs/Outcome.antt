@@ -8,6 +8,7 @@ use Rattle.fx_base.specs.declared.settings.Written.TheVariants.{Whole, Failed}
 use Rattle.rv_model.specs.declared.image.Image.{Image}
 use Rattle.rv_model.specs.declared.report.Report.{Report}
 use Rattle.rv_model.specs.declared.report.RunEnd.{RunEnd}
+use Rattle.rv_asm.specs.Listing.{listed}
 use Rattle.effects_top.specs.declared.outcome.Outcome.{Outcome}
 use Rattle.effects_top.specs.Answers.{refusal_status, refusal_line, end_status, end_line, output_line}
 use Rattle.effects_top.specs.Output.{Wrote}
@@ -59,3 +60,7 @@ abbrev pub Ran : Outcome → Image → Report → (out out' : Option (List ℕ))
 Ran outcome i r out out' out_faults out_faults' err err' faults faults' =
     Answered outcome i (Some r) r.printed (end_status r.end) (end_line r.end) out out' out_faults out_faults' err err' faults faults'
 
+-- the image was listed: its answer is the listing
+abbrev pub Listed : Outcome → Image → (out out' : Option (List ℕ)) (out_faults out_faults' : ℕ) (err err' : Option (List ℕ)) (faults faults' : ℕ) → Type 0
+Listed outcome i out out' out_faults out_faults' err err' faults faults' =
+    Answered outcome i None (listed i) 0 [] out out' out_faults out_faults' err err' faults faults'

@@ -1,18 +1,18 @@
 //! The top call.
 
-ghost use Rattle.std.specs.Prelude.{◌≡◌, ℕ, ◌≤◌, ◌⊎◌, ◌↔◌, List, None, Some, IsSome, IfOk, IfErr, IfSome, IsErrOf, Option, map, option_map};
+ghost use Rattle.std.specs.Prelude.{◌≡◌, ℕ, ◌≤◌, ◌⊎◌, ◌↔◌, List, [], None, Some, IsSome, IfOk, IfErr, IfSome, IsErrOf, Option, map, option_map};
 ghost use Rattle.std.specs.String.{string_bytes};
 ghost use Rattle.fx_base.specs.Faults.{Rose};
 ghost use Rattle.fx_base.specs.Told.{Holds};
 ghost use Rattle.rv_model.specs.Run.{Runs};
 ghost use Rattle.effects_top.specs.Words.{Numbers, Asked, file_of, numbers_of, numbers_asked, asked};
-ghost use Rattle.effects_top.specs.Words.{Run as AskedRun};
+ghost use Rattle.effects_top.specs.Words.{Assemble as AskedListing, Run as AskedRun};
 ghost use Rattle.effects_top.specs.Expression.{Expression};
 ghost use Rattle.effects_top.specs.Form.{IsFormOf};
 ghost use Rattle.effects_top.specs.Headline.{IsImageOf, IsRunOf, IsTold, Shows, Compiles};
 ghost use Rattle.effects_top.specs.Answers.{end_status, end_line};
 ghost use Rattle.effects_top.specs.Output.{Wrote};
-ghost use Rattle.effects_top.specs.Outcome.{IsRefusedWith, Refused, Ran, answer_status, answer_line};
+ghost use Rattle.effects_top.specs.Outcome.{IsRefusedWith, Refused, Ran, Listed, answer_status, answer_line};
 
 use crate::answers::{end_status, refusal_status, tell_end, tell_refusal};
 use crate::outcome::Outcome;
@@ -20,6 +20,7 @@ use crate::output::write_all;
 use crate::program::{compile_file, run_image};
 use crate::words::{Command, command_of};
 use fx_base::{Files, Gate, Refusal, Settings, Sink, Status, Turns, Written};
+use rv_asm::listing;
 use rv_model::{Image, Report, RunEnd};
 use std::alloc::Global;
 use std::sync::Wait;
@@ -37,12 +38,12 @@ fn refused<E: Sink>(err: &mut E, refusal: Refusal, image: Option<Image>) -> Outc
     }
 }
 
-// The status after a run.
-fn run_status(end: &RunEnd, written: Written) -> Status
-    ensures { result.0 ≡ answer_status (end_status end.now) written }
+// The status of an answer, from that of a whole one.
+fn answer_status(whole: Status, written: Written) -> Status
+    ensures { result.0 ≡ answer_status whole.0 written }
 {
     match written {
-        Written::Whole => end_status(end),
+        Written::Whole => whole,
         Written::Failed => Status(69),
     }
 }
@@ -67,10 +68,67 @@ fn ran<E: Sink>(err: &mut E, image: Image, report: Report, written: Written) -> 
 {
     let _told = tell_run(err, &report.end, written);
     Outcome {
-        status: run_status(&report.end, written),
+        status: answer_status(end_status(&report.end), written),
         image: Some(image),
         report: Some(report),
         written: Some(written),
+    }
+}
+
+// Writes the line on standard error after a listing.
+fn tell_listing<E: Sink>(err: &mut E, written: Written) -> Written
+    ensures { Wrote (E.held err.old) (E.held err.new) (E.faults err.old) (E.faults err.new) (answer_line [] written) result }
+{
+    match written {
+        Written::Whole => write_all(err, b""),
+        Written::Failed => write_all(err, b"error: output\n"),
+    }
+}
+
+// What is answered after a listing was written.
+fn listed<E: Sink>(err: &mut E, image: Image, written: Written) -> Outcome
+    ensures status { result.status.0 ≡ answer_status 0 written }
+    ensures image { result.image ≡ Some image }
+    ensures report { result.report ≡ None }
+    ensures written { result.written ≡ Some written }
+    ensures told { (w : Written) × Wrote (E.held err.old) (E.held err.new) (E.faults err.old) (E.faults err.new) (answer_line [] written) w }
+{
+    let _told = tell_listing(err, written);
+    Outcome {
+        status: answer_status(Status(0), written),
+        image: Some(image),
+        report: None,
+        written: Some(written),
+    }
+}
+
+// Compiles a file and lists its image.
+fn list_program<F: Files, O: Sink, E: Sink>(
+    alloc: Global,
+    files: &mut F,
+    out: &mut O,
+    err: &mut E,
+    file: &str,
+    settings: &Settings,
+) -> Outcome
+    requires { F.opened files.old ≡ None }
+    ensures compiles { Compiles result file.now (numbers_of settings.now) (F.told files.old file.now) (F.opened files.new) (F.taken files.new) (F.faults files.old) (F.faults files.new) }
+    ensures report { result.report ≡ None }
+    ensures refused { result.written ≡ None → (O.held out.new ≡ O.held out.old)
+        × ((refusal : Refusal) × (i : Option Image) × Refused result refusal i (E.held err.old) (E.held err.new) (E.faults err.old) (E.faults err.new)) }
+    ensures listed { (w : Written) → result.written ≡ Some w → (i : Image)
+        × Listed result i (O.held out.old) (O.held out.new) (O.faults out.old) (O.faults out.new) (E.held err.old) (E.held err.new) (E.faults err.old) (E.faults err.new) }
+{
+    let image = match compile_file(alloc, files, file, settings) {
+        Ok(image) => image,
+        Err(refusal) => return refused(err, refusal, None),
+    };
+    match listing(alloc, &image) {
+        Ok(text) => {
+            let written = write_all(out, &text);
+            listed(err, image, written)
+        }
+        Err(refusal) => refused(err, refusal, Some(image)),
     }
 }
 
@@ -116,12 +174,16 @@ pub fn effects_main<R: Threads + Wait, F: Files, O: Sink, E: Sink, G: Gate>(
     requires { F.opened files.old ≡ None }
     ensures opened { (F.opened files.new ≡ None) ⊎ (F.opened files.new ≡ option_map file_of (asked (map string_bytes words.now))) }
 
-    // Something was refused and nothing written to `out`, or the program was run.
+    // Something was refused and nothing written to `out`, or the program was run, or its image listed.
     ensures refused { result.written ≡ None → (O.held out.new ≡ O.held out.old)
         × ((refusal : Refusal) × (i : Option Image) × Refused result refusal i (E.held err.old) (E.held err.new) (E.faults err.old) (E.faults err.new)) }
     ensures ran { (file : List ℕ) (numbers : Numbers) (turns : ℕ) (w : Written) → asked (map string_bytes words.now) ≡ Some (AskedRun file numbers turns) → result.written ≡ Some w
         → (i : Image) × (r : Report)
         × IsRunOf i turns r × Ran result i r (O.held out.old) (O.held out.new) (O.faults out.old) (O.faults out.new) (E.held err.old) (E.held err.new) (E.faults err.old) (E.faults err.new) }
+
+    ensures listed { (file : List ℕ) (numbers : Numbers) (w : Written) → asked (map string_bytes words.now) ≡ Some (AskedListing file numbers) → result.written ≡ Some w
+        → (i : Image)
+        × Listed result i (O.held out.old) (O.held out.new) (O.faults out.old) (O.faults out.new) (E.held err.old) (E.held err.new) (E.faults err.old) (E.faults err.new) }
 
     // The image has the settings of the words. Where the file's bytes are told: it stands for the program
     // that they are; the report is that of a run of that program; a syntax fault comes only where they are
@@ -147,6 +209,8 @@ pub fn effects_main<R: Threads + Wait, F: Files, O: Sink, E: Sink, G: Gate>(
             settings,
             turns,
         }) => run_program(alloc, files, out, err, file, &settings, turns),
-        Some(Command::Assemble { .. }) => refused(err, Refusal::Memory, None),
+        Some(Command::Assemble { file, settings }) => {
+            list_program(alloc, files, out, err, file, &settings)
+        }
     }
 }
