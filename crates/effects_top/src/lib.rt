@@ -23,4 +23,4 @@ mod words;
 
 pub use outcome::Outcome;
 pub use program::{Ran, compile_file, run_file};
-pub use top::effects_main;
+pub use top::{effects_main, refused};

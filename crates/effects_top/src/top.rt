@@ -26,7 +26,8 @@ use std::alloc::Global;
 use std::sync::Wait;
 use std::thread::Threads;
 
-fn refused<E: Sink>(err: &mut E, refusal: Refusal, image: Option<Image>) -> Outcome
+/// The answer of a refusal, whose line is written to `err`.
+pub fn refused<E: Sink>(err: &mut E, refusal: Refusal, image: Option<Image>) -> Outcome
     ensures { Refused result refusal image (E.held err.old) (E.held err.new) (E.faults err.old) (E.faults err.new) }
 {
     let _told = tell_refusal(err, refusal);
