@@ -1,4 +1,9 @@
 pub mod Ahead
+pub mod CommentScans
 pub mod Digits
 pub mod Drops
+pub mod Kept
+pub mod Scans
+pub mod StringParts
 pub mod TextAt
+pub mod Turns

@@ -1,5 +1,5 @@
 -- The forms of lexemes, and the longest one at the front of a text.
-use Rattle.std.specs.Prelude.{◌≡◌, ℕ, ◌≤◌, ◌⊎◌, Bool, true, false, ◌==◌, ◌&&◌, List, [], ◌∷◌, ◌++◌, length, IsSome}
+use Rattle.std.specs.Prelude.{◌≡◌, ℕ, ◌≤◌, ◌⊎◌, Bool, true, false, ◌==◌, ◌&&◌, ◌||◌, List, [], ◌∷◌, ◌++◌, length, IsSome}
 use Rattle.ml_lexer.specs.declared.bytes.Class.TheVariants.{Letter, Digit, Quote}
 use Rattle.ml_lexer.specs.declared.form.Form.{Form}
 use Rattle.ml_lexer.specs.declared.form.Form.TheVariants.{Word, Number, Character, Variable, Text, Symbol}
@@ -29,12 +29,23 @@ abbrev pub IsBased : List ℕ → Type 0
 IsBased (z ∷ x ∷ d ∷ bs) = ((z == 48) ≡ true) × (in_base x d ≡ true) × AllPass (or_underscore (in_base x)) bs
 IsBased _ = ⊥
 
--- `'`, a byte or an escape, and `'`
+-- `'`, a byte that stands for itself, and `'`
+abbrev pub is_plain_literal : List ℕ → Bool
+is_plain_literal (q ∷ b ∷ r ∷ []) = (q == 39) && is_plain_character b && (r == 39)
+is_plain_literal _ = false
+
+-- `'`, a `\` and one byte, and `'`
+abbrev pub is_short_literal : List ℕ → Bool
+is_short_literal (q ∷ e ∷ c ∷ r ∷ []) = (q == 39) && (e == 92) && is_escaped c && (r == 39)
+is_short_literal _ = false
+
+-- `'`, a `\` and three bytes, and `'`
+abbrev pub is_coded_literal : List ℕ → Bool
+is_coded_literal (q ∷ e ∷ a ∷ b ∷ c ∷ r ∷ []) = (q == 39) && (e == 92) && is_code a b c && (r == 39)
+is_coded_literal _ = false
+
 abbrev pub is_character : List ℕ → Bool
-is_character (q ∷ b ∷ r ∷ []) = (q == 39) && is_plain_character b && (r == 39)
-is_character (q ∷ e ∷ c ∷ r ∷ []) = (q == 39) && (e == 92) && is_escaped c && (r == 39)
-is_character (q ∷ e ∷ a ∷ b ∷ c ∷ r ∷ []) = (q == 39) && (e == 92) && is_code a b c && (r == 39)
-is_character _ = false
+is_character t = is_plain_literal t || is_short_literal t || is_coded_literal t
 
 -- `'`, and a name that begins with a lower-case letter or `_`
 abbrev pub IsVariable : List ℕ → Type 0

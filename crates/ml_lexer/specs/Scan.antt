@@ -8,7 +8,7 @@ use Rattle.ml_lexer.specs.declared.form.Form.TheVariants.{Word, Number, Characte
 use Rattle.ml_lexer.specs.declared.token.TokenKind.{TokenKind}
 use Rattle.ml_lexer.specs.Bytes.{class, continues_name, begins_lower, is_digit, in_base, is_escaped_in_string, is_code, is_blank}
 use Rattle.ml_lexer.specs.Tables.{kind_in, single_symbols, double_symbols}
-use Rattle.ml_lexer.specs.Forms.{or_underscore, is_character}
+use Rattle.ml_lexer.specs.Forms.{or_underscore, is_plain_literal, is_short_literal, is_coded_literal}
 use Rattle.ml_lexer.specs.Comments.{opens_comment, closes_comment}
 use Rattle.ml_lexer.specs.Lexes.{Piece, blank, comment, lexeme, kind_of, bytes_of}
 
@@ -33,9 +33,9 @@ scan_number (z ∷ x ∷ d ∷ bs) =
 -- the length of the character literal at the front
 abbrev pub scan_character : List ℕ → Option ℕ
 scan_character bs =
-    if is_character (take 3 bs) then Some 3 else (
-    if is_character (take 4 bs) then Some 4 else (
-    if is_character (take 6 bs) then Some 6 else None))
+    if is_plain_literal (take 3 bs) then Some 3 else (
+    if is_short_literal (take 4 bs) then Some 4 else (
+    if is_coded_literal (take 6 bs) then Some 6 else None))
 
 -- the length of the type variable at the front
 abbrev pub scan_variable : List ℕ → Option ℕ

@@ -1,8 +1,8 @@
 //! The length of the lexeme at the front of a text.
 
-ghost use Rattle.std.specs.Prelude.{◌≡◌, ℕ, ◌<◌, ◌≤◌, length, option_map, IfSome, IsTrue};
+ghost use Rattle.std.specs.Prelude.{◌≡◌, ℕ, ◌<◌, ◌≤◌, length, option_map, take, IfSome, IsTrue};
 ghost use Rattle.ml_lexer.specs.Bytes.{continues_name, in_base, is_digit};
-ghost use Rattle.ml_lexer.specs.Forms.{or_underscore};
+ghost use Rattle.ml_lexer.specs.Forms.{is_coded_literal, is_plain_literal, is_short_literal, or_underscore};
 ghost use Rattle.ml_lexer.specs.Part.{PartIs};
 ghost use Rattle.ml_lexer.specs.Scan.{run, scan, scan_character, scan_number, scan_parts, scan_quoted, scan_symbol, scan_variable};
 
@@ -67,17 +67,47 @@ fn number_len(bytes: &[u8]) -> usize
     }
 }
 
+// Whether `'`, a byte that stands for itself and `'` are at the front.
+fn begins_plain(bytes: &[u8]) -> bool
+    ensures value { result ≡ is_plain_literal (take 3 bytes.now) }
+    ensures within { IsTrue result → 3 ≤ length bytes.now }
+{
+    matches!(bytes, [b'\'', byte, b'\'', ..] if is_plain_in_character(*byte))
+}
+
+// Whether `'`, a `\` and one byte, and `'` are at the front.
+fn begins_short(bytes: &[u8]) -> bool
+    ensures value { result ≡ is_short_literal (take 4 bytes.now) }
+    ensures within { IsTrue result → 4 ≤ length bytes.now }
+{
+    matches!(bytes, [b'\'', b'\\', byte, b'\'', ..] if is_escape(*byte))
+}
+
+// Whether `'`, a `\` and three bytes, and `'` are at the front.
+fn begins_coded(bytes: &[u8]) -> bool
+    ensures value { result ≡ is_coded_literal (take 6 bytes.now) }
+    ensures within { IsTrue result → 6 ≤ length bytes.now }
+{
+    matches!(
+        bytes,
+        [b'\'', b'\\', first, second, third, b'\'', ..]
+            if is_byte_code(*first, *second, *third)
+    )
+}
+
 /// The length of the character literal at the front.
 pub fn character_len(bytes: &[u8]) -> Option<usize>
     ensures value { result ≡ scan_character bytes.now }
     ensures bound { IfSome result (λ n. (0 < n) × (n ≤ length bytes.now)) }
 {
-    match bytes {
-        [b'\'', byte, b'\'', ..] if is_plain_in_character(*byte) => Some(3),
-        [b'\'', b'\\', byte, b'\'', ..] if is_escape(*byte) => Some(4),
-        [b'\'', b'\\', first, second, third, b'\'', ..] if is_byte_code(*first, *second, *third) =>
-            { Some(6) }
-        _ => None,
+    if begins_plain(bytes) {
+        Some(3)
+    } else if begins_short(bytes) {
+        Some(4)
+    } else if begins_coded(bytes) {
+        Some(6)
+    } else {
+        None
     }
 }
 

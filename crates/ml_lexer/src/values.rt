@@ -1,8 +1,8 @@
 //! What literals stand for.
 
-ghost use Rattle.std.specs.Prelude.{◌≡◌, ℕ, ◌+◌, ◌*◌, ◌<◌, ◌≤◌, length, IfOk, IsOkUnless};
+ghost use Rattle.std.specs.Prelude.{◌≡◌, ℕ, ◌+◌, ◌*◌, ◌<◌, ◌≤◌, length, ◌++◌, [], IfOk, OnOk, IsOkUnless};
 ghost use Rattle.ml_lexer.specs.Values as values;
-ghost use Rattle.ml_lexer.specs.Values.{byte_of_character, bytes_of_string, digits_value, in_range, indent, part, value_of_integer};
+ghost use Rattle.ml_lexer.specs.Values.{before, byte_of_character, bytes_of_string, digits_value, in_range, indent, part, value_of_integer};
 
 use crate::bytes::{
     coded_byte, digit_value, escaped_byte, is_base_digit, is_escape, is_plain_in_character,
@@ -83,6 +83,16 @@ fn part_at(bytes: &[u8]) -> (Option<u8>, usize)
     }
 }
 
+// Adds the byte of a part, if it stands for one.
+fn add(bytes: &mut Vec<u8>, byte: Option<u8>) -> Result<(), AllocError>
+    ensures { OnOk result (bytes.new.items ≡ bytes.old.items ++ before byte []) }
+{
+    if let Some(byte) = byte {
+        bytes.push(byte)?;
+    }
+    Ok(())
+}
+
 // The bytes that the parts of a string stand for.
 fn parts_bytes(alloc: Global, parts: &[u8]) -> Result<Vec<u8>, AllocError>
     ensures { IfOk result (λ bytes. bytes.items ≡ values.parts_bytes 0 parts.now) }
@@ -91,9 +101,7 @@ fn parts_bytes(alloc: Global, parts: &[u8]) -> Result<Vec<u8>, AllocError>
     let mut at = 0;
     while at < parts.len() {
         let (byte, length) = part_at(&parts[at..]);
-        if let Some(byte) = byte {
-            bytes.push(byte)?;
-        }
+        add(&mut bytes, byte)?;
         at += length;
     }
     Ok(bytes)

@@ -1,5 +1,6 @@
 use Rattle.std.proofs.Common.{◌≡◌, ◌+◌, ◌*◌, ◌<◌, Some, None, sym, ◌∙◌, ap, arith, Bool, true, false}
 use Rattle.std.specs.Prelude.{nat_le, if◌then◌else◌}
+use Rattle.ml_lexer.specs.Values.{digits_value}
 use Rattle.ml_lexer.proofs.Digits.{too_large, digit_read, score_read}
 use Rattle.ml_lexer.proofs.values.digits_in_range.Goals as goal
 use Rattle.ml_lexer.proofs.values.digits_in_range.Goals.{then-digit-ne95, else-digit-ne95}
@@ -14,4 +15,4 @@ returns-then-value-from c =
       | else-digit-ne95 w ↦ score_read _ c.loop-digit.value c.args.base c.if-digit-ne95.value w.if-digit-ne95.false w.value-is
     ])
     big c.loop-digit.invariant.rest in
-    ap (λ (b : Bool). if b then Some _ else None) out
+    ap (λ (b : Bool). if b then Some (digits_value c.args.base 0 c.args.digits.now) else None) out
