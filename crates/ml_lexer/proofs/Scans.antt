@@ -344,6 +344,7 @@ not_plain q e r h = by_test (q == 39)
   where
     no_byte : is_plain_character e ≡ false
     no_byte = rw (eqb-true e 92 h) refl
+
     by_test : (v : Bool) → (v && is_plain_character e && (r == 39)) ≡ false
     by_test true = rw no_byte refl
     by_test false = refl
@@ -455,14 +456,14 @@ scanned_variable [] h = tt
 scanned_variable (q ∷ []) h = tt
 scanned_variable (q ∷ b ∷ bs) h = if_on (Scanned Variable (q ∷ b ∷ bs)) ((q == 39) && begins_lower b) (Some (suc (suc (run continues_name bs)))) None
     (λ e.
-        let t = both (q == 39) (begins_lower b) e in
-        let r = run_runs continues_name bs in
-        let n = suc (suc (run continues_name bs)) in
-        record {
-          form = ((t.0, t.1, r.pass), λ c after p. none_scanned (q ∷ b ∷ bs) h c after (sym (take-append-drop n (q ∷ b ∷ bs)) ∙ p));
-          within = omega (arith, r.within);
-          greatest = λ u s p k. variable_greatest q b bs u s p k.0;
-        })
+    let t = both (q == 39) (begins_lower b) e in
+    let r = run_runs continues_name bs in
+    let n = suc (suc (run continues_name bs)) in
+    record {
+      form = ((t.0, t.1, r.pass), λ c after p. none_scanned (q ∷ b ∷ bs) h c after (sym (take-append-drop n (q ∷ b ∷ bs)) ∙ p));
+      within = omega (arith, r.within);
+      greatest = λ u s p k. variable_greatest q b bs u s p k.0;
+    })
     (λ e. tt)
 
 -- what a scan finds is as long as any lexeme that stands there

@@ -33,8 +33,8 @@ parts_more ps items more at n b h k p i m =
     let first : b ≡ (part (drop at ps)).0 = ap (λ (q : Option ℕ × ℕ). q.0) is in
     let second : n ≡ (part (drop at ps)).1 = ap (λ (q : Option ℕ × ℕ). q.1) is in
     let step : parts_bytes 0 (drop at ps) ≡ before b (parts_bytes 0 (drop n (drop at ps))) =
-        bytes_step (drop at ps) (omega (arith, length-drop at ps)) (subst (λ j. 0 < j) second k)
-        ∙ ap (λ o. before o (parts_bytes 0 (drop (part (drop at ps)).1 (drop at ps)))) (sym first) ∙ ap (λ j. before b (parts_bytes 0 (drop j (drop at ps)))) (sym second) in
+    bytes_step (drop at ps) (omega (arith, length-drop at ps)) (subst (λ j. 0 < j) second k)
+    ∙ ap (λ o. before o (parts_bytes 0 (drop (part (drop at ps)).1 (drop at ps)))) (sym first) ∙ ap (λ j. before b (parts_bytes 0 (drop j (drop at ps)))) (sym second) in
     i ∙ ap (λ us. items ++ us) step ∙ before_more items _ b ∙ ap (λ us. us ++ parts_bytes 0 (drop n (drop at ps))) (sym m) ∙ ap (λ us. more ++ parts_bytes 0 us) (drop-drop n at ps)
 
 pub parts_within : (ps : List ℕ) (at n : ℕ) → at < length ps → (0 < length (take (length ps - at) (drop at ps)) → n ≤ length (take (length ps - at) (drop at ps))) → at + n ≤ length ps
