@@ -1,15 +1,13 @@
-use Rattle.std.proofs.Common.{◌≡◌, ℕ, zero, suc, ◌+◌, ◌-◌, ◌<◌, ◌≤◌, ◌⊎◌, inl, inr, Bool, true, false, ◌&&◌, ◌||◌, List, [], ◌∷◌, ◌++◌, length, take, drop, Option, Some, None, refl, sym, ◌∙◌, ap, subst, arith}
-use Rattle.std.specs.Prelude.{◌==◌, if◌then◌else◌, option_map, option_and_then}
+use Rattle.std.proofs.Common.{◌≡◌, ℕ, zero, suc, ◌+◌, ◌-◌, ◌≤◌, Bool, true, false, ◌&&◌, ◌||◌, List, [], ◌∷◌, ◌++◌, length, take, drop, Option, Some, None, refl, sym, ◌∙◌, ap, subst, arith}
+use Rattle.std.specs.Prelude.{◌==◌, if◌then◌else◌, option_and_then}
 use Rattle.std.proofs.lemmas.Bool.{eqb-true}
-use Rattle.std.proofs.lemmas.List.{length-append, take-append-drop, length-take-le}
-use Rattle.ml_lexer.specs.declared.bytes.Class.{Class}
+use Rattle.std.proofs.lemmas.List.{length-append, take-append-drop}
 use Rattle.ml_lexer.specs.declared.bytes.Class.TheVariants.{Blank, Letter, Digit, Quote, Apostrophe, Mark}
 use Rattle.ml_lexer.specs.Bytes.{class, is_blank, is_lower, is_upper, is_digit}
-use Rattle.ml_lexer.specs.declared.form.Form.TheVariants.{Character, Text}
-use Rattle.ml_lexer.specs.Forms.{Parts, is_plain_literal, is_short_literal, is_coded_literal, is_character, HasForm}
-use Rattle.ml_lexer.specs.Comments.{opens_comment, closes_comment, quotes, BeginsNoCharacter, Inside, outside, deeper, ends, quoted, literal, other}
+use Rattle.ml_lexer.specs.Forms.{Parts, is_character}
+use Rattle.ml_lexer.specs.Comments.{opens_comment, closes_comment, BeginsNoCharacter, Inside, outside, deeper, ends, quoted, literal, other}
 use Rattle.ml_lexer.specs.Scan.{after_one, or_one, scan_character, scan_parts, inside}
-use Rattle.ml_lexer.proofs.Scans.{On, Ended, parts_found, parts_scanned, IsLiteral, character_found, character_scanned, character_of, character_form, none_scanned, none_stands}
+use Rattle.ml_lexer.proofs.Scans.{On, Ended, parts_found, parts_scanned, IsLiteral, character_found, character_scanned, none_scanned, none_stands}
 
 -- the bytes of a text are passed one by one
 pub passed : List ℕ → Option ℕ → Option ℕ

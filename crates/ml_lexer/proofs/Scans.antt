@@ -1,4 +1,4 @@
-use Rattle.std.proofs.Common.{◌≡◌, ℕ, zero, suc, ◌+◌, ◌<◌, ◌≤◌, ◌⊎◌, inl, inr, Bool, true, false, ◌&&◌, ◌||◌, List, [], ◌∷◌, ◌++◌, length, take, drop, Option, Some, None, refl, sym, ◌∙◌, ap, subst, arith}
+use Rattle.std.proofs.Common.{◌≡◌, ℕ, suc, ◌≤◌, ◌⊎◌, inl, inr, Bool, true, false, ◌&&◌, ◌||◌, List, [], ◌∷◌, ◌++◌, length, take, drop, Option, Some, None, refl, sym, ◌∙◌, ap, subst, arith}
 use Rattle.std.specs.Prelude.{◌==◌, if◌then◌else◌, option_map, unwrap_or, bytes_eq}
 use Rattle.std.specs.Option.{is_some}
 use Rattle.std.proofs.lemmas.Bool.{eqb-true}
@@ -278,7 +278,7 @@ abbrev pub all_texts : (List ℕ → Bool) → List (List ℕ × TokenKind) → 
 all_texts p [] = true
 all_texts p (e ∷ es) = p e.0 && all_texts p es
 
-table_rule : (p : List ℕ → Bool) (es : List (List ℕ × TokenKind)) (t : List ℕ) → all_texts p es ≡ true → is_some (kind_in es t) ≡ true → p t ≡ true
+pub table_rule : (p : List ℕ → Bool) (es : List (List ℕ × TokenKind)) (t : List ℕ) → all_texts p es ≡ true → is_some (kind_in es t) ≡ true → p t ≡ true
 table_rule p [] t h k = absurd (cc)
 table_rule p (e ∷ es) t h k = let r = both (p e.0) (all_texts p es) h in by_test (table_rule p es t r.1) r.0 (bytes_eq t e.0) refl k
   where
@@ -302,10 +302,10 @@ abbrev begins_mark : List ℕ → Bool
 begins_mark [] = false
 begins_mark (b ∷ bs) = is_mark (class b)
 
-single_class : (a : ℕ) → is_some (kind_in single_symbols (a ∷ [])) ≡ true → class a ≡ Mark
+pub single_class : (a : ℕ) → is_some (kind_in single_symbols (a ∷ [])) ≡ true → class a ≡ Mark
 single_class a h = mark_of (class a) (table_rule begins_mark single_symbols (a ∷ []) refl h)
 
-double_class : (a b : ℕ) → is_some (kind_in double_symbols (a ∷ b ∷ [])) ≡ true → class a ≡ Mark
+pub double_class : (a b : ℕ) → is_some (kind_in double_symbols (a ∷ b ∷ [])) ≡ true → class a ≡ Mark
 double_class a b h = mark_of (class a) (table_rule begins_mark double_symbols (a ∷ b ∷ []) refl h)
 
 no_pair_longer : (u : List ℕ) → HasForm Symbol u → length u ≤ 2
@@ -425,10 +425,10 @@ none_stands bs h = by_option (scan_character bs) (character_found bs)
     by_option None k = refl
     by_option (Some n) k = absurd (h (take n bs) (drop n bs) (sym (take-append-drop n bs)) (character_form (take n bs) k.character))
 
-apostrophe_class : (b : ℕ) → (b == 39) ≡ true → class b ≡ Apostrophe
+pub apostrophe_class : (b : ℕ) → (b == 39) ≡ true → class b ≡ Apostrophe
 apostrophe_class b h = rw (eqb-true b 39 h) refl
 
-literal_class : (b : ℕ) (u : List ℕ) → is_character (b ∷ u) ≡ true → class b ≡ Apostrophe
+pub literal_class : (b : ℕ) (u : List ℕ) → is_character (b ∷ u) ≡ true → class b ≡ Apostrophe
 literal_class b [] h = absurd (cc)
 literal_class b (c ∷ []) h = absurd (cc)
 literal_class q (b ∷ r ∷ []) h = let p : is_plain_literal (q ∷ b ∷ r ∷ []) ≡ true = or_nothing _ h in apostrophe_class q (both (q == 39) _ (both ((q == 39) && is_plain_character b) (r == 39) p).0).0

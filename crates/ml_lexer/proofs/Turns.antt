@@ -1,8 +1,8 @@
 use Rattle.std.proofs.Common.{◌≡◌, ℕ, zero, suc, ◌+◌, ◌-◌, ◌<◌, ◌≤◌, Bool, true, false, List, [], ◌∷◌, length, take, drop, get_or, Option, Some, None, refl, sym, ◌∙◌, ap, subst, arith, length-drop}
-use Rattle.std.specs.Prelude.{option_map, option_and_then, ◌==◌}
+use Rattle.std.specs.Prelude.{option_map, ◌==◌}
 use Rattle.std.proofs.lemmas.Bool.{eqb-true}
 use Rattle.std.proofs.lemmas.List.{drop-drop}
-use Rattle.ml_lexer.specs.declared.comments.Turn.TheVariants.{Opens, Closes, Bytes, Fault}
+use Rattle.ml_lexer.specs.declared.comments.Turn.TheVariants.{Opens, Closes, Bytes}
 use Rattle.ml_lexer.specs.Comments.{opens_comment, closes_comment}
 use Rattle.ml_lexer.specs.Scan.{after_one, or_one, scan_character, scan_parts, inside}
 use Rattle.ml_lexer.specs.Turn.{TurnIs}

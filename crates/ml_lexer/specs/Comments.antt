@@ -1,5 +1,5 @@
 -- Comments, which nest.
-use Rattle.std.specs.Prelude.{◌≡◌, ℕ, suc, Bool, true, false, ◌==◌, ◌&&◌, List, [], ◌∷◌, ◌++◌}
+use Rattle.std.specs.Prelude.{◌≡◌, ℕ, suc, Bool, true, false, ◌==◌, ◌&&◌, List, ◌∷◌, ◌++◌}
 use Rattle.ml_lexer.specs.declared.form.Form.TheVariants.{Character, Text}
 use Rattle.ml_lexer.specs.Forms.{HasForm}
 

@@ -1,5 +1,5 @@
 -- The lexemes of a text, and the place of its first fault.
-use Rattle.std.specs.Prelude.{◌≡◌, ◌≢◌, ℕ, ◌+◌, Bool, true, false, ◌==◌, List, [], ◌∷◌, ◌++◌, Option, Some, None, option_map, if◌then◌else◌}
+use Rattle.std.specs.Prelude.{◌≡◌, ◌≢◌, ℕ, ◌+◌, true, false, ◌==◌, List, [], ◌∷◌, ◌++◌, Option, Some, None, option_map, if◌then◌else◌}
 use Rattle.fx_base.specs.declared.refusal.Place.{Place}
 use Rattle.ml_lexer.specs.declared.form.Form.{Form}
 use Rattle.ml_lexer.specs.declared.form.Form.TheVariants as forms

@@ -1,5 +1,5 @@
 -- What the part at the front of a string says of those from there on.
-use Rattle.std.specs.Prelude.{◌≡◌, ℕ, ◌+◌, ◌≤◌, ◌<◌, List, [], ◌∷◌, length, drop, Option, Some, None, option_map}
+use Rattle.std.specs.Prelude.{◌≡◌, ℕ, ◌+◌, ◌≤◌, ◌<◌, List, length, drop, Some, None, option_map}
 use Rattle.ml_lexer.specs.declared.scan.Part.{Part}
 use Rattle.ml_lexer.specs.declared.scan.Part.TheVariants.{End, Bytes, Fault}
 use Rattle.ml_lexer.specs.Scan.{scan_parts}

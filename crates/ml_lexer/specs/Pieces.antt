@@ -1,5 +1,5 @@
 -- What is read of a text, piece by piece.
-use Rattle.std.specs.Prelude.{◌≡◌, ℕ, zero, ◌+◌, List, [], ◌∷◌, ◌++◌, length, Result, Ok, Err}
+use Rattle.std.specs.Prelude.{ℕ, zero, ◌+◌, List, [], ◌∷◌, ◌++◌, length, Result, Ok, Err}
 use Rattle.fx_base.specs.declared.refusal.Place.{Place}
 use Rattle.ml_lexer.specs.declared.piece.Sort.{Sort}
 use Rattle.ml_lexer.specs.declared.piece.Sort.TheVariants as sorts

@@ -1,5 +1,5 @@
 -- How a text is cut, byte by byte.
-use Rattle.std.specs.Prelude.{◌≡◌, ℕ, zero, suc, ◌+◌, ◌-◌, Bool, true, false, ◌==◌, ◌&&◌, List, [], ◌∷◌, ◌++◌, length, take, drop, if◌then◌else◌, Option, Some, None, option_map, option_and_then}
+use Rattle.std.specs.Prelude.{ℕ, zero, suc, ◌-◌, Bool, ◌==◌, ◌&&◌, List, [], ◌∷◌, length, take, if◌then◌else◌, Option, Some, None, option_map, option_and_then}
 use Rattle.std.specs.Option.{is_some}
 use Rattle.ml_lexer.specs.declared.bytes.Class.{Class}
 use Rattle.ml_lexer.specs.declared.bytes.Class.TheVariants.{Blank, Letter, Digit, Quote, Apostrophe, Mark}

@@ -1,5 +1,5 @@
 -- What stands at the front inside a comment.
-use Rattle.std.specs.Prelude.{◌≡◌, ℕ, suc, ◌+◌, ◌≤◌, ◌<◌, List, length, drop, Option, Some, None, option_map}
+use Rattle.std.specs.Prelude.{◌≡◌, ℕ, suc, ◌+◌, ◌≤◌, ◌<◌, List, length, drop, None, option_map}
 use Rattle.ml_lexer.specs.declared.comments.Turn.{Turn}
 use Rattle.ml_lexer.specs.declared.comments.Turn.TheVariants.{Opens, Closes, Bytes, Fault}
 use Rattle.ml_lexer.specs.Scan.{inside}

@@ -1,6 +1,6 @@
 -- What literals stand for.
-use Rattle.std.specs.Prelude.{ℕ, zero, suc, ◌+◌, ◌-◌, ◌*◌, nat_le, Bool, true, false, ◌==◌, ◌&&◌, ◌||◌, List, [], ◌∷◌, ◌++◌, length, take, drop, Option, Some, None, if◌then◌else◌}
-use Rattle.ml_lexer.specs.Bytes.{is_digit, in_base, is_plain, is_escaped, is_code}
+use Rattle.std.specs.Prelude.{ℕ, zero, suc, ◌+◌, ◌-◌, ◌*◌, nat_le, ◌==◌, ◌&&◌, ◌||◌, List, [], ◌∷◌, length, take, drop, Option, Some, None, if◌then◌else◌}
+use Rattle.ml_lexer.specs.Bytes.{is_digit, in_base, is_code}
 use Rattle.ml_lexer.specs.Forms.{is_character}
 
 -- the value of a digit

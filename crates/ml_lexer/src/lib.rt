@@ -13,14 +13,13 @@ mod comments;
 mod cut;
 mod form;
 mod laws;
-
 mod piece;
 mod scan;
 mod tables;
 mod token;
 mod values;
 
-pub use laws::{one_reading, spaced_longest};
 pub use cut::lex;
+pub use laws::{one_reading, spaced_longest};
 pub use token::{Token, TokenKind, TokenView, Tokens, token_text};
 pub use values::{character_byte, integer_value, string_bytes};

@@ -1,5 +1,5 @@
 use Rattle.std.proofs.Common.{◌≡◌, ◌+◌, drop}
-use Rattle.ml_lexer.specs.Bytes.{continues_name, is_digit, in_base}
+use Rattle.ml_lexer.specs.Bytes.{in_base}
 use Rattle.ml_lexer.specs.Forms.{or_underscore}
 use Rattle.ml_lexer.specs.Scan.{run}
 use Rattle.ml_lexer.proofs.scan.based_run.Given as goal

@@ -1,4 +1,4 @@
-use Rattle.std.proofs.Common.{◌≡◌, ◌+◌, drop, ap, sym, subst, arith, length-drop}
+use Rattle.std.proofs.Common.{◌≡◌, ◌+◌, drop, sym, subst, arith, length-drop}
 use Rattle.std.specs.Prelude.{option_map}
 use Rattle.ml_lexer.specs.Scan.{scan_parts}
 use Rattle.ml_lexer.specs.Part.{PartIs}

@@ -1,5 +1,5 @@
-use Rattle.std.proofs.Common.{◌≡◌, ◌+◌, ◌*◌, ◌<◌, Some, None, sym, ◌∙◌, ap, arith, Bool, true, false}
-use Rattle.std.specs.Prelude.{nat_le, if◌then◌else◌}
+use Rattle.std.proofs.Common.{◌+◌, ◌*◌, ◌<◌, Some, None, ◌∙◌, ap, arith, Bool}
+use Rattle.std.specs.Prelude.{if◌then◌else◌}
 use Rattle.ml_lexer.specs.Values.{digits_value}
 use Rattle.ml_lexer.proofs.Digits.{too_large, digit_read, score_read}
 use Rattle.ml_lexer.proofs.values.digits_in_range.Goals as goal
