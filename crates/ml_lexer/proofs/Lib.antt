@@ -1,0 +1,12 @@
+pub mod Ahead
+pub mod CommentScans
+pub mod Digits
+pub mod Drops
+pub mod Kept
+pub mod PieceScans
+pub mod Readings
+pub mod Scans
+pub mod Spaced
+pub mod StringParts
+pub mod TextAt
+pub mod Turns

@@ -1,0 +1,24 @@
+-- A token with its bytes, and where its kind and place come from.
+use Rattle.std.specs.Prelude.{ℕ, ◌≤◌, ◌-◌, List, length, take, drop, map}
+use Rattle.fx_base.specs.declared.refusal.Place.{Place}
+use Rattle.ml_lexer.specs.declared.token.TokenKind.{TokenKind}
+use Rattle.ml_lexer.specs.declared.token.Token.{Token}
+
+-- a token with its bytes
+pub record Lexeme : Type 0 where
+  pub kind : TokenKind
+  pub text : List ℕ
+  pub place : Place
+
+-- the bytes that a token of this source spans, with its kind and place
+abbrev pub lexeme_at : List ℕ → Token → Lexeme
+lexeme_at source t = record { kind = t.kind; text = take (t.to - t.from) (drop t.from source); place = t.place }
+
+-- a token that spans bytes of the source
+pub record LiesIn (source : List ℕ) (t : Token) : Type 0 where
+  pub ordered : t.from ≤ t.to
+  pub within : t.to ≤ length source
+
+-- the bytes of each token
+abbrev pub texts : List Lexeme → List (List ℕ)
+texts ls = map (λ l. l.text) ls

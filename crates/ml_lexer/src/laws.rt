@@ -1,0 +1,20 @@
+//! Laws of the tokens of a text, as contracts.
+
+ghost use Rattle.std.specs.Prelude.{◌≡◌, ℕ, List, ◌∷◌, true};
+ghost use Rattle.fx_base.specs.declared.refusal.Place.{Place};
+ghost use Rattle.ml_lexer.specs.declared.token.TokenKind.{TokenKind};
+ghost use Rattle.ml_lexer.specs.Bytes.{is_blank};
+ghost use Rattle.ml_lexer.specs.Lexeme.{Lexeme};
+ghost use Rattle.ml_lexer.specs.Lexes.{FaultsAt, IsLexeme, Lexes};
+
+/// A text has at most one list of tokens and at most one first fault, and not both.
+pub fn one_reading()
+    ensures tokens { (bytes : List ℕ) (some other : List Lexeme) → Lexes bytes some → Lexes bytes other → some ≡ other }
+    ensures fault { (bytes : List ℕ) (some other : Place) → FaultsAt bytes some → FaultsAt bytes other → some ≡ other }
+    ensures either { (bytes : List ℕ) (lexemes : List Lexeme) (place : Place) → Lexes bytes lexemes → FaultsAt bytes place → ⊥ }
+{}
+
+/// What is a token before some rest is one before a blank too, whatever follows the blank.
+pub fn spaced_longest()
+    ensures { (kind : TokenKind) (text rest after : List ℕ) (blank : ℕ) → IsLexeme kind text rest → is_blank blank ≡ true → IsLexeme kind text (blank ∷ after) }
+{}
