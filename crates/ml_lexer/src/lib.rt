@@ -16,6 +16,8 @@ mod laws;
 mod piece;
 mod scan;
 mod tables;
+#[cfg(test)]
+mod tests;
 mod token;
 mod values;
 
