@@ -7,3 +7,4 @@ pub mod Emitting
 pub mod Forming
 pub mod Printing
 pub mod Telling
+pub mod TestLines

@@ -15,6 +15,8 @@ mod constant;
 mod labels;
 mod layout;
 mod list;
+#[cfg(test)]
+mod tests;
 mod text;
 
 pub use assembled::{Assembled, LabelPlace};
