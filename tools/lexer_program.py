@@ -58,7 +58,10 @@ fn print_reading(rt: &impl Print, alloc: Global, text: &[u8]) -> io::Result<()> 
 
 fn print_each(rt: &impl Print, alloc: Global, input: &[u8]) -> io::Result<()> {
     let mut rest = input;
-    while let [a, b, c, d, tail @ ..] = rest {
+    for _ in 0..input.len() {
+        let [a, b, c, d, tail @ ..] = rest else {
+            break;
+        };
         let length = u32::from_le_bytes([*a, *b, *c, *d]) as usize;
         if length > tail.len() {
             return rt.println("short");

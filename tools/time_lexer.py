@@ -30,7 +30,7 @@ KINDS = [
     ('apostrophes in a comment', lambda n: b'(*' + filled(b"'", n - 4) + b'*)'),
     ('half characters in a comment', lambda n: b'(*' + filled(b"'\\25", n - 4) + b'*)'),
     ('strings in a comment', lambda n: b'(*' + filled(b'"a"', (n - 4) // 3 * 3) + b'*)'),
-    ('type variables', lambda n: filled(b"'a ", n)),
+    ('type variables', lambda n: filled(b"'a ", n // 3 * 3)),
     ('one number', lambda n: b'0' * n),
     ('short names', lambda n: filled(b'x ', n)),
     ('keywords', lambda n: filled(b'with let function ', n // 18 * 18)),

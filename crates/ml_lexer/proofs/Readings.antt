@@ -1,4 +1,4 @@
-use Rattle.std.proofs.Common.{◌≡◌, ℕ, zero, ◌+◌, ◌-◌, ◌<◌, ◌≤◌, All, List, [], ◌∷◌, ◌++◌, length, take, drop, map, Option, Some, None, Ok, Err, refl, sym, ◌∙◌, ap, subst, arith, append_assoc, length-drop}
+use Rattle.std.proofs.Common.{◌≡◌, ◌⊎◌, inl, inr, ℕ, zero, ◌+◌, ◌-◌, ◌<◌, ◌≤◌, All, List, [], ◌∷◌, ◌++◌, length, take, drop, map, Option, Some, None, Ok, Err, refl, sym, ◌∙◌, ap, subst, arith, append_assoc, length-drop}
 use Rattle.std.specs.Prelude.{◌≢◌, Result, option_map}
 use Rattle.std.proofs.Math.Seq.{take-append_seam, drop-append_seam}
 use Rattle.std.proofs.lemmas.List.{drop-drop, length-take-le, map-append}
@@ -155,3 +155,10 @@ one_fault bs some other h k = let e : Err some ≡ Err other = sym (faults_read 
 
 pub no_fault : (bs : List ℕ) (ls : List Lexeme) (place : Place) → Lexes bs ls → FaultsAt bs place → ⊥
 no_fault bs ls place h k = let e : Ok ls ≡ Err place = sym (lexes_read bs ls h) ∙ faults_read bs place k in cc
+
+pub reading : (bs : List ℕ) → ((ls : List Lexeme) × Lexes bs ls) ⊎ ((place : Place) × FaultsAt bs place)
+reading bs = by_result (read_from first_place bs) refl
+  where
+    by_result : (r : Result (List Lexeme) Place) → read_from first_place bs ≡ r → ((ls : List Lexeme) × Lexes bs ls) ⊎ ((place : Place) × FaultsAt bs place)
+    by_result (Ok ls) e = inl (ls, read_lexes bs ls e)
+    by_result (Err place) e = inr (place, read_faults bs place e)

@@ -286,7 +286,7 @@ table_rule p (e ∷ es) t h k = let r = both (p e.0) (all_texts p es) h in by_te
     by_test again q true j i = subst (λ u. p u ≡ true) (sym ((bytes_eq-Decides t e.0).0 j)) q
     by_test again q false j i = again i
 
-abbrev is_mark : Class → Bool
+abbrev pub is_mark : Class → Bool
 is_mark Mark = true
 is_mark _ = false
 

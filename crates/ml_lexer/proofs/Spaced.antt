@@ -3,7 +3,8 @@ use Rattle.std.specs.Prelude.{◌==◌, if◌then◌else◌}
 use Rattle.std.specs.Option.{is_some}
 use Rattle.std.proofs.lemmas.Bool.{eqb-true}
 use Rattle.std.proofs.Math.Seq.{take-append_seam, drop-append_seam}
-use Rattle.ml_lexer.specs.declared.bytes.Class.TheVariants.{Digit}
+use Rattle.ml_lexer.specs.declared.bytes.Class.{Class}
+use Rattle.ml_lexer.specs.declared.bytes.Class.TheVariants.{Letter, Digit, Quote, Apostrophe, Mark}
 use Rattle.ml_lexer.specs.declared.form.Form.{Form}
 use Rattle.ml_lexer.specs.declared.form.Form.TheVariants.{Word, Number, Character, Variable, Text, Symbol}
 use Rattle.ml_lexer.specs.declared.token.TokenKind.{TokenKind}
@@ -12,9 +13,9 @@ use Rattle.ml_lexer.specs.Bytes.{class, continues_name, begins_lower, is_digit, 
 use Rattle.ml_lexer.specs.Tables.{kind_in, double_symbols}
 use Rattle.ml_lexer.specs.Forms.{AllPass, or_underscore, is_plain_literal, is_short_literal, is_coded_literal, HasForm, IsFront, IsLongest}
 use Rattle.ml_lexer.specs.Comments.{opens_comment}
-use Rattle.ml_lexer.specs.Lexes.{IsLexeme}
+use Rattle.ml_lexer.specs.Lexes.{IsLexeme, kind_of}
 use Rattle.ml_lexer.specs.Scan.{run, scan_number, scan_character, scan_variable, scan_quoted, of_form, scan_class, scan}
-use Rattle.ml_lexer.proofs.Scans.{base_letter, parts_scanned, scan_longest, table_rule, single_class, double_class, character_scanned, literal_class, apostrophe_class}
+use Rattle.ml_lexer.proofs.Scans.{is_mark, base_letter, parts_scanned, scan_longest, table_rule, single_class, double_class, character_scanned, literal_class, apostrophe_class}
 
 -- a byte that ends each lexeme but strings and characters
 record Ends (b : ℕ) : Type 0 where
@@ -207,18 +208,55 @@ scan_spaced b Symbol (a ∷ []) rest s e h = rw (single_class a h, e.pair a, h) 
 scan_spaced b Symbol (a ∷ c ∷ []) rest s e h = rw (double_class a c h, h) refl
 scan_spaced b Symbol (a ∷ c ∷ d ∷ u) rest s e h = absurd h
 
-spaced_is : (b : ℕ) (f : Form) (t rest s : List ℕ) → Ends b → IsLongest f t rest → IsLongest f t (b ∷ s)
-spaced_is b f t rest s e h =
-    subst (λ u. IsLongest f t u) (drop-append_seam t (b ∷ s)) (subst (λ u. IsLongest f u (drop (length t) (t ++ b ∷ s))) (take-append_seam t (b ∷ s)) (scan_longest (t ++ b ∷ s) f (length t) (scan_spaced b f t rest s e h.form)))
+bracket_class : (a : ℕ) (c : Class) → class a ≡ c → (is_mark c ≡ false) → (a == 40) ≡ false
+bracket_class a c h n = by_test (a == 40) refl
+  where
+    by_test : (v : Bool) → (a == 40) ≡ v → v ≡ false
+    by_test false e = refl
+    by_test true e = absurd (let m : class a ≡ Mark = rw (eqb-true a 40 e) refl in let i : is_mark c ≡ true = ap is_mark (sym h ∙ m) in cc)
 
-no_comment : (b : ℕ) (t rest s : List ℕ) → Ends b → opens_comment (t ++ rest) ≡ false → opens_comment (t ++ b ∷ s) ≡ false
-no_comment b [] rest [] e h = refl
-no_comment b [] rest (c ∷ s) e h = rw e.bracket refl
-no_comment b (a ∷ []) rest s e h = and_false (a == 40) (b == 42) e.star
-no_comment b (a ∷ c ∷ t) rest s e h = h
+false_and : (a b : Bool) → a ≡ false → (a && b) ≡ false
+false_and true b h = absurd (cc)
+false_and false b h = refl
+
+-- no symbol of two bytes begins a comment
+abbrev begins_none : List ℕ → Bool
+begins_none (a ∷ b ∷ []) = if (a == 40) && (b == 42) then false else true
+begins_none _ = true
+
+no_opening : (a c : ℕ) → is_some (kind_in double_symbols (a ∷ c ∷ [])) ≡ true → ((a == 40) && (c == 42)) ≡ false
+no_opening a c h = by_test ((a == 40) && (c == 42)) refl (table_rule begins_none double_symbols (a ∷ c ∷ []) refl h)
+  where
+    by_test : (v : Bool) → ((a == 40) && (c == 42)) ≡ v → (if v then false else true) ≡ true → v ≡ false
+    by_test false e k = refl
+    by_test true e k = absurd (cc)
+
+-- no lexeme of two bytes or more begins a comment
+front_opens : (f : Form) (a c : ℕ) (u rest : List ℕ) → IsFront f (a ∷ c ∷ u) rest → ((a == 40) && (c == 42)) ≡ false
+front_opens Word a c u rest h = false_and (a == 40) (c == 42) (bracket_class a Letter h.0 refl)
+front_opens Number a c u rest (inl h) = false_and (a == 40) (c == 42) (bracket_class a Digit h.0 refl)
+front_opens Number a c [] rest (inr h) = absurd h
+front_opens Number a c (d ∷ u) rest (inr h) = false_and (a == 40) (c == 42) (rw (eqb-true a 48 h.0) refl)
+front_opens Character a c u rest h = false_and (a == 40) (c == 42) (bracket_class a Apostrophe (literal_class a (c ∷ u) h) refl)
+front_opens Variable a c u rest h = false_and (a == 40) (c == 42) (rw (eqb-true a 39 h.0.0) refl)
+front_opens Text a c u rest h = false_and (a == 40) (c == 42) (bracket_class a Quote h.0 refl)
+front_opens Symbol a c [] rest h = no_opening a c h
+front_opens Symbol a c (d ∷ u) rest h = absurd h
+
+front_comment : (b : ℕ) (f : Form) (t rest s : List ℕ) → Ends b → IsFront f t rest → opens_comment (t ++ b ∷ s) ≡ false
+front_comment b f [] rest [] e h = refl
+front_comment b f [] rest (c ∷ s) e h = rw e.bracket refl
+front_comment b f (a ∷ []) rest s e h = and_false (a == 40) (b == 42) e.star
+front_comment b f (a ∷ c ∷ t) rest s e h = front_opens f a c t rest h
+
+-- what has a form and a kind is a token before a blank
+pub formed_spaced : (f : Form) (k : TokenKind) (t rest s : List ℕ) (b : ℕ) → IsFront f t rest → kind_of f t ≡ Some k → is_blank b ≡ true → IsLexeme k t (b ∷ s)
+formed_spaced f k t rest s b h i e =
+    let ends = blank_ends b e in
+    let longest : IsLongest f t (b ∷ s) =
+    subst (λ u. IsLongest f t u) (drop-append_seam t (b ∷ s)) (subst (λ u. IsLongest f u (drop (length t) (t ++ b ∷ s))) (take-append_seam t (b ∷ s)) (scan_longest (t ++ b ∷ s) f (length t) (scan_spaced b f t rest s ends h))) in
+    record { form = f; longest = longest; kind = i; outside = front_comment b f t rest s ends h }
 
 -- a token before a blank is one, whatever follows
 pub lexeme_spaced : (k : TokenKind) (t rest s : List ℕ) (b : ℕ) → IsLexeme k t rest → is_blank b ≡ true → IsLexeme k t (b ∷ s)
-lexeme_spaced k t rest s b h e =
-    let ends = blank_ends b e in
-    record { form = h.form; longest = spaced_is b h.form t rest s ends h.longest; kind = h.kind; outside = no_comment b t rest s ends h.outside }
+lexeme_spaced k t rest s b h e = formed_spaced h.form k t rest s b h.longest.form h.kind e

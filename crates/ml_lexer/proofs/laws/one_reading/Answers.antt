@@ -1,5 +1,8 @@
-use Rattle.ml_lexer.proofs.Readings.{one_list, one_fault, no_fault}
+use Rattle.ml_lexer.proofs.Readings.{reading, one_list, one_fault, no_fault}
 use Rattle.ml_lexer.proofs.laws.one_reading.Goals as goal
+
+pub returns-clause-some : goal.returns-clause-some
+returns-clause-some c = reading
 
 pub returns-clause-tokens : goal.returns-clause-tokens
 returns-clause-tokens c = one_list
