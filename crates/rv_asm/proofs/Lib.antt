@@ -5,3 +5,5 @@ pub mod Lengthening
 pub mod Settling
 pub mod Emitting
 pub mod Forming
+pub mod Printing
+pub mod Telling

@@ -2,3 +2,5 @@ pub mod Constant
 pub mod Found
 pub mod Layout
 pub mod Lines
+pub mod Listing
+pub mod Text

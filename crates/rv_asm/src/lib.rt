@@ -14,6 +14,9 @@ mod assembler;
 mod constant;
 mod labels;
 mod layout;
+mod list;
+mod text;
 
 pub use assembled::{Assembled, LabelPlace};
 pub use assembler::assemble;
+pub use list::{listing, listings_differ};

@@ -1,0 +1,8 @@
+use Rattle.std.proofs.Common.{rules, append_assoc}
+use Rattle.std.proofs.lemmas.Result.{IfOk-equal}
+use Rattle.rv_asm.specs.Listing.{word_line}
+use Rattle.rv_asm.proofs.list.put_word_line.Goals as goal
+
+pub returns : goal.returns
+unfolding word_line
+returns c = search (rules, IfOk-equal, append_assoc)
