@@ -1,12 +1,10 @@
 -- The lines can be assembled, and to what.
-use Rattle.std.proofs.Common.{◌≡◌, ◌≢◌, ℕ, zero, suc, ◌+◌, ◌<◌, List, [], ◌∷◌, ◌++◌, Some, Bool, true, false, ◌||◌, length, pos, negsuc, refl, sym, ap, ◌∙◌, subst, lit<, lit≤, arith}
-use Rattle.std.specs.Prelude.{slice_get, IsFalse, if◌then◌else◌}
+use Rattle.std.proofs.Common.{◌≡◌, ℕ, zero, suc, ◌+◌, ◌<◌, List, [], ◌∷◌, Some, Bool, true, false, ◌||◌, refl, sym, ap, ◌∙◌, subst, lit<}
+use Rattle.std.specs.Prelude.{slice_get, IsFalse}
 use Rattle.rv_model.specs.declared.instr.Op.{Op}
-use Rattle.rv_model.specs.declared.instr.Op.TheVariants.{Ld, Addi, Add, Xor, Sd, Srli, Mul, Bne, Ecall}
 use Rattle.rv_model.specs.declared.instr.Instr.{Instr}
 use Rattle.rv_model.specs.declared.line.Line.{Line}
 use Rattle.rv_model.specs.declared.line.Line.TheVariants.{Label, Plain, Branch, Jump, Const, CodeOf}
-use Rattle.rv_model.specs.Format.{plain}
 use Rattle.rv_asm.specs.declared.assembled.LabelPlace.{LabelPlace}
 use Rattle.rv_asm.specs.Lines.{AreLines, IsLine}
 use Rattle.rv_asm.specs.Layout.{Layout, Fits, Assembles, is_near, start_of, place_of, code_of}

@@ -1,19 +1,17 @@
 -- The program keeps the log, the end and its own place, whatever the other harts do.
-use Rattle.std.proofs.Common.{◌≡◌, ◌≢◌, ℕ, zero, suc, ◌+◌, ◌*◌, ◌/◌, ◌<◌, ◌≤◌, List, [], ◌∷◌, ◌++◌, map, Option, Some, None, Bool, true, false, ◌&&◌, not, refl, sym, ap, ◌∙◌, subst, lit<, lit≤, arith}
+use Rattle.std.proofs.Common.{◌≡◌, ℕ, zero, suc, ◌+◌, ◌*◌, ◌/◌, ◌<◌, ◌≤◌, List, [], ◌∷◌, ◌++◌, map, Some, Bool, true, false, ◌&&◌, not, refl, sym, ap, ◌∙◌, subst, lit<, lit≤, arith}
 use Rattle.std.specs.Prelude.{slice_get, ◌==◌, nat_lt, IsTrue, if◌then◌else◌}
 use Rattle.std.proofs.lemmas.Bool.{eqb-true}
 use Rattle.rv_model.specs.declared.image.Image.{Image}
 use Rattle.rv_model.specs.declared.image.StartWord.{StartWord}
-use Rattle.rv_model.specs.declared.hart.Hart.{Hart as HartState}
 use Rattle.rv_model.specs.declared.instr.Instr.{Instr}
 use Rattle.rv_model.specs.declared.report.RunEnd.{RunEnd}
 use Rattle.rv_model.specs.declared.report.RunEnd.TheVariants.{Exited}
-use Rattle.rv_model.specs.Word.{wrap}
-use Rattle.rv_model.specs.Machine.{Regs, Words, Hart, Plan, Awaits, Stops, Faults, Move, Goes, Waits, plan, answered, word_at, words_after, step, set_word, moved, next, put, hart_of, regs_of, asks}
+use Rattle.rv_model.specs.Machine.{Regs, Words, Hart, Plan, Awaits, Stops, Faults, Goes, Waits, plan, answered, word_at, words_after, step, set_word, moved, put, hart_of, asks}
 use Rattle.rv_model.specs.Layout.{Keeps, IsSound, log, log_words, end, end_of, bytes_from}
 use Rattle.rv_model.specs.Start.{first_harts, start_words}
-use Rattle.rv_model.specs.Run.{Runs, first, move_of}
-use Rattle.rv_model.proofs.Keeping.{Leaves, IsInvariant, invariant_runs}
+use Rattle.rv_model.specs.Run.{Runs}
+use Rattle.rv_model.proofs.Keeping.{Leaves, invariant_runs}
 use Rattle.runner_bench.specs.Program.{bench_code, start_of}
 
 -- what the registers have at instruction k

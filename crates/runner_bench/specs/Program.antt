@@ -1,6 +1,5 @@
 -- The loop, as lines and as instructions, and the words at the start.
-use Rattle.std.specs.Prelude.{ℕ, ℤ, pos, negsuc, List, [], ◌∷◌}
-use Rattle.rv_model.specs.declared.instr.Op.{Op}
+use Rattle.std.specs.Prelude.{ℕ, pos, negsuc, List, [], ◌∷◌}
 use Rattle.rv_model.specs.declared.instr.Op.TheVariants.{Ld, Addi, Add, Xor, Sd, Srli, Mul, Bne, Ecall}
 use Rattle.rv_model.specs.declared.instr.Instr.{Instr}
 use Rattle.rv_model.specs.declared.line.Line.{Line}

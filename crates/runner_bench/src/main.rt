@@ -11,6 +11,8 @@
 ghost use Rattle.std.specs.Prelude.{◌≤◌, IfOk};
 
 mod program;
+#[cfg(test)]
+mod tests;
 
 use crate::program::{Gate, loop_image, settings};
 use anyhow::Context;

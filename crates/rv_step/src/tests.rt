@@ -38,15 +38,17 @@ fn adding(number: u64) -> Hart
 fn two_harts_add_to_one_word(rt: HostRuntime) -> Result<(), Fail> {
     let mut code = Code::empty(rt.alloc());
     code.push(ADD_TO_WORD)?;
-    let mut memory = VecMemory::new(vec![in rt.alloc(); 0; 2]?);
-    let mut first = adding(0);
-    let mut second = adding(1);
-    assert_eq!(rt; step(&code, &mut first, &mut memory), Turn::Went);
-    assert_eq!(rt; step(&code, &mut second, &mut memory), Turn::Went);
-    assert_eq!(rt; first.register(5), 0);
-    assert_eq!(rt; second.register(5), 4);
-    assert_eq!(rt; memory.words()[1], 8);
-    assert_eq!(rt; first.retired, 1);
+    for numbers in [(0, 1), (1, 0)] {
+        let mut memory = VecMemory::new(vec![in rt.alloc(); 0; 2]?);
+        let mut earlier = adding(numbers.0);
+        let mut later = adding(numbers.1);
+        assert_eq!(rt; step(&code, &mut earlier, &mut memory), Turn::Went);
+        assert_eq!(rt; step(&code, &mut later, &mut memory), Turn::Went);
+        assert_eq!(rt; earlier.register(5), 0);
+        assert_eq!(rt; later.register(5), 4);
+        assert_eq!(rt; memory.words()[1], 8);
+        assert_eq!(rt; earlier.retired, 1);
+    }
     Ok(())
 }
 

@@ -50,8 +50,10 @@ right false b f = f
 -- a hart of a run that isn't over is below the budget
 pub below_budget : (image : Image) (hs : List HartState) (ws : List ℕ) (i : ℕ) (h : HartState) → IsReady image hs ws → IsFalse (is_over image (machine_of hs ws)) → slice_get hs i ≡ Some h → h.retired < image.settings.budget
 below_budget image hs ws i h ready running at =
+    let spent = list_any (λ (x : Hart). x.retired == image.settings.budget) (map hart_of hs) in
+    let none : spent ≡ false = right (has_ended ws) spent running in
     let le : h.retired ≤ image.settings.budget = ready.within i h at in
-    let ne : h.retired ≢ image.settings.budget = none_spent image.settings.budget (map hart_of hs) i (hart_of h) (right _ _ running) (map_get hart_of hs i h at) in
+    let ne : h.retired ≢ image.settings.budget = none_spent image.settings.budget (map hart_of hs) i (hart_of h) none (map_get hart_of hs i h at) in
     omega (arith, le, ne)
 
 pub retired_get : (hs : List HartState) (i : ℕ) (h : HartState) → slice_get hs i ≡ Some h → retired_at i hs ≡ h.retired

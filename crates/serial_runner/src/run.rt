@@ -54,7 +54,9 @@ fn run(
 
 /// Runs an image in turns, each of so many instructions, to its end.
 ///
-/// Refused only for want of memory; all memory is taken before the first instruction.
+/// The end word counts before the budget. A deadlock is a whole round in which no hart had a step, since
+/// each waits or has stopped. Refused only for want of memory; all memory is taken before the first
+/// instruction.
 pub fn run_serial(alloc: Global, image: &Image, turns: Turns) -> Result<Report, Refusal>
     requires runs { Runs image.now }
     ensures serial { IfOk result (λ report. Serial image.now turns.count report.words report.harts) }
