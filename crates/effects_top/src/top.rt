@@ -205,11 +205,13 @@ pub fn effects_main<R: Threads + Wait, F: Files, O: Sink, E: Sink, G: Gate>(
 {
     match command_of(words) {
         None => refused(err, Refusal::Usage, None),
-        Some(Command::Run {
-            file,
-            settings,
-            turns,
-        }) => run_program(alloc, files, out, err, file, &settings, turns),
+        Some(
+            Command::Run {
+                file,
+                settings,
+                turns,
+            },
+        ) => run_program(alloc, files, out, err, file, &settings, turns),
         Some(Command::Assemble { file, settings }) => {
             list_program(alloc, files, out, err, file, &settings)
         }

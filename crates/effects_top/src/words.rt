@@ -2,7 +2,7 @@
 
 ghost use Rattle.std.specs.Prelude.{◌≡◌, false, IfSome, MatchOption, IsTrue, unwrap_or, map, option_map};
 ghost use Rattle.std.specs.String.{string_bytes};
-ghost use Rattle.effects_top.specs.Words.{can_be_file, choice_of, least, most, is_of, number_of, seen_said, AreInRange,  choose, with_option, with_file, is_joined, IsJoinedOf, said_by, numbers_of, numbers_said, seen_command, asked_listing, asked_run, asked};
+ghost use Rattle.effects_top.specs.Words.{can_be_file, choice_of, least, most, is_of, number_of, seen_said, AreInRange, choose, with_option, with_file, is_joined, IsJoinedOf, said_by, numbers_of, numbers_said, seen_command, asked_listing, asked_run, asked};
 
 use crate::token::decimal;
 use fx_base::{Settings, Turns};
@@ -22,7 +22,10 @@ pub enum Choice {
 #[derive(Clone, Copy, Debug)]
 pub enum Command<'a> {
     /// The listing of the image of a file.
-    Assemble { file: &'a str, settings: Settings },
+    Assemble {
+        file: &'a str,
+        settings: Settings,
+    },
     /// A run of the program of a file.
     Run {
         file: &'a str,
