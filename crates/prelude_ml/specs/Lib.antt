@@ -1,0 +1,2 @@
+pub mod PreludeText
+pub mod MadeText
