@@ -142,7 +142,7 @@ size-some long (CodeOf rd l) h = omega arith
 
 module _ (lines : List Line) (long : Layout) (are : AreLines lines) (fits : Fits lines long) (short : count_of long lines ≤ 262144) where
   -- an instruction follows each label
-  place_within : (l j : ℕ) → slice_get lines j ≡ Some (Label l) → place_of long lines l < 262144
+  pub place_within : (l j : ℕ) → slice_get lines j ≡ Some (Label l) → place_of long lines l < 262144
   place_within l j at =
       let m = line_of lines l in
       let n = length lines in

@@ -8,3 +8,6 @@ pub mod Forming
 pub mod Printing
 pub mod Telling
 pub mod TestLines
+pub mod Putting
+pub mod Leading
+pub mod Running

@@ -1,4 +1,5 @@
 pub mod Constant
+pub mod Doing
 pub mod Found
 pub mod Layout
 pub mod Lines

@@ -1,9 +1,13 @@
 //! From lines to code.
 
-ghost use Rattle.std.specs.Prelude.{◌≡◌, ◌≤◌, ◌^◌, ◌++◌, map, length, IfOk, IfErr, OnOk, pos};
+ghost use Rattle.std.specs.Prelude.{◌≡◌, ◌≤◌, ◌^◌, ◌++◌, List, map, length, IfOk, IfErr, OnOk, pos};
 ghost use Rattle.rv_model.specs.Format.{plain};
 ghost use Rattle.rv_asm.specs.Lines.{AreLines, offset as offset_spec, opposite as opposite_spec, line_code};
 ghost use Rattle.rv_asm.specs.Layout.{Assembles, IsRefused, count_of, code_of, places_of};
+ghost use Rattle.rv_model.specs.declared.instr.Instr.{Instr as InstrOf};
+ghost use Rattle.rv_model.specs.declared.line.Line.{Line as LineOf};
+ghost use Rattle.rv_asm.specs.declared.assembled.LabelPlace.{LabelPlace as LabelPlaceOf};
+ghost use Rattle.rv_asm.specs.Doing.{DoesLines};
 ghost use Rattle.rv_asm.specs.Found.{layout_of, line_named, AreSettled};
 
 use crate::assembled::{Assembled, LabelPlace};
@@ -165,3 +169,9 @@ pub fn assemble(alloc: Global, lines: &[Line]) -> Result<Assembled, Refusal>
         places: Items::from_vec(places),
     })
 }
+
+/// The code of some lines does what each of them says, from where the line begins to where the next one
+/// begins, or to its label.
+pub fn lines_are_done()
+    ensures { (lines : List LineOf) (code : List InstrOf) (places : List LabelPlaceOf) (assembled : Assembles lines code places) → AreLines lines → length code ≤ 262144 → DoesLines lines code assembled.long }
+{}

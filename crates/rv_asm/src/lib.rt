@@ -20,5 +20,5 @@ mod tests;
 mod text;
 
 pub use assembled::{Assembled, LabelPlace};
-pub use assembler::assemble;
+pub use assembler::{MOST, assemble, lines_are_done};
 pub use list::{listing, listings_differ};
