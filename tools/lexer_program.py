@@ -115,7 +115,7 @@ class Program:
     def lines(self, texts):
         """A line for each text, from the program built with checks and without proof."""
         given = b''.join(struct.pack('<I', len(t)) + t for t in texts)
-        run = subprocess.run(['rt', 'try'], cwd=self.crate, input=given, stdout=subprocess.PIPE, stderr=subprocess.PIPE)
+        run = subprocess.run(['rt', 'try', '--seconds', '900'], cwd=self.crate, input=given, stdout=subprocess.PIPE, stderr=subprocess.PIPE)
         lines = run.stdout.decode().splitlines()
         if len(lines) != len(texts):
             raise SystemExit('the program gave %d lines for %d texts:\n%s' % (len(lines), len(texts), run.stderr.decode()[-2000:]))
