@@ -1,6 +1,6 @@
 #!/usr/bin/env bash
 # Runs one loop of 200,000,000 instructions by the proved runner and by bench/rvrun.c, and prints the
-# least time of five runs of each, and their ratio. It wants gcc and the toolchain; it is no part of the gate.
+# least processor time of five runs of each, and their ratio. It wants gcc and the toolchain; it is no part of the gate.
 set -eu
 top=$(cd "$(dirname "$0")/.." && pwd)
 crate=$top/crates/runner_bench
@@ -13,14 +13,13 @@ trap 'rm -rf "$work"' EXIT
 gcc -O2 -o "$work/rvrun" "$top/bench/rvrun.c"
 "$program" "$count" listing >"$work/loop.lst"
 
-# The least milliseconds that a command takes, of five runs.
+# The least milliseconds of processor time that a command takes, of five runs.
 least() {
-    local best=0 start end took
+    local best=0 took
+    TIMEFORMAT=%3U
     for _ in 1 2 3 4 5; do
-        start=$(date +%s%N)
-        "$@" >"$work/out" 2>"$work/err" || { cat "$work/err" >&2; exit 1; }
-        end=$(date +%s%N)
-        took=$(((end - start) / 1000000))
+        took=$({ time "$@" >"$work/out" 2>"$work/err"; } 2>&1)
+        took=$((10#${took//[!0-9]/}))
         if [ "$best" -eq 0 ] || [ "$took" -lt "$best" ]; then best=$took; fi
     done
     echo "$best"
