@@ -16,6 +16,8 @@ mod labels;
 mod layout;
 mod list;
 #[cfg(test)]
+mod samples;
+#[cfg(test)]
 mod tests;
 mod text;
 

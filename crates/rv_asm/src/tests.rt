@@ -2,8 +2,10 @@ ghost use Rattle.std.specs.Prelude.{◌≡◌, ◌++◌, replicate, IfOk};
 ghost use Rattle.rv_asm.specs.Lines.{AreLines};
 
 use super::*;
+use crate::samples::{LISTING, WORDS};
 use fx_base::{LimitKind, Refusal, Settings};
 use rv_model::{Code, Image, Instr, Items, Line, Op, StartWord};
+use rv_table::decode;
 use std::alloc::{AllocError, Global};
 use std::test::Fail;
 
@@ -266,5 +268,25 @@ fn listed(rt: HostRuntime) -> Result<(), Fail> {
 "
             .as_slice()
     );
+    Ok(())
+}
+
+#[test]
+fn all_operations(rt: HostRuntime) -> Result<(), Fail> {
+    let mut code = Code::empty(rt.alloc());
+    for word in WORDS.iter() {
+        if let Some(instr) = decode(*word) {
+            if code.instrs().len() < 262_144 {
+                code.push(instr)?;
+            }
+        }
+    }
+    let image = Image {
+        settings: Settings::usual(),
+        code,
+        start: Items::from_vec(Vec::new(rt.alloc())),
+        size: 200_000,
+    };
+    assert_eq!(rt; listing(rt.alloc(), &image)?.as_slice(), LISTING);
     Ok(())
 }

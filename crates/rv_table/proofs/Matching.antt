@@ -1,11 +1,11 @@
 -- A word has the bits of an operation's row exactly where it is the word of the instruction that the
 -- operation reads in it.
-use Rattle.std.proofs.Common.{◌≡◌, ℕ, ◌+◌, ◌-◌, ◌*◌, ◌/◌, ◌%◌, ◌^◌, ◌<◌, ◌≤◌, ℤ, pos, negsuc, Bool, true, false, refl, sym, ap, ◌∙◌, subst, arith}
+use Rattle.std.proofs.Common.{◌≡◌, ℕ, ◌+◌, ◌-◌, ◌*◌, ◌/◌, ◌%◌, ◌^◌, ◌<◌, pos, negsuc, Bool, true, false, refl, sym, ap, ◌∙◌, subst, arith}
 use Rattle.std.specs.Prelude.{◌==◌, nat_lt, if◌then◌else◌, bit_and}
-use Rattle.std.proofs.lemmas.Bool.{ltb-true, ltb-false, lt-ltb, le-ltb, eqb-true, eqb-false, eq-eqb}
+use Rattle.std.proofs.lemmas.Bool.{eqb-true, eqb-false}
 use Rattle.rv_model.specs.declared.instr.Op.{Op}
 use Rattle.rv_model.specs.declared.instr.Instr.{Instr}
-use Rattle.rv_model.specs.Word.{word_of, bit}
+use Rattle.rv_model.specs.Word.{bit}
 use Rattle.rv_model.specs.Format.{Format, Register, Immediate, Shift, Store, Branch, Upper, Jump, Atomic, System, Parts, packed, parts_of, low, signed, branch_above, branch_below, branch_offset, jump_bits, jump_offset, upper_parts, upper_bits, parts, fields}
 use Rattle.rv_model.specs.Table.{format, bits_of, read_as}
 use Rattle.rv_model.proofs.Fields.{InRange, IsFixed, packed-parts_of, parts_of-range, bit-below}

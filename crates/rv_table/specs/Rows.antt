@@ -1,8 +1,8 @@
 -- Rows of the instruction table: the fixed bits of an operation as a mask and its bits.
-use Rattle.std.specs.Prelude.{ℕ, ◌+◌, ◌*◌, ◌^◌, List, map, Bool, ◌==◌, bit_and, slice_index}
+use Rattle.std.specs.Prelude.{ℕ, ◌+◌, ◌*◌, ◌^◌, List, Bool, ◌==◌, bit_and, slice_index}
 use Rattle.rv_model.specs.declared.instr.Op.{Op}
 use Rattle.rv_model.specs.Format.{Format, Register, Immediate, Shift, Store, Branch, Upper, Jump, Atomic, System}
-use Rattle.rv_model.specs.Table.{format, ops}
+use Rattle.rv_model.specs.Table.{format}
 use Rattle.rv_table.specs.declared.rows.Row.{Row}
 
 -- ones where a format fixes bits

@@ -1,5 +1,5 @@
 -- The code's parts of words as those of the definitions.
-use Rattle.std.specs.Prelude.{ℕ, ◌<◌}
+use Rattle.std.specs.Prelude.{◌<◌}
 use Rattle.rv_model.specs.declared.instr.Op.{Op}
 use Rattle.rv_model.specs.declared.instr.Instr.{Instr}
 use Rattle.rv_model.specs.Format.{Parts, parts, fields}

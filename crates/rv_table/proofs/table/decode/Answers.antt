@@ -1,7 +1,7 @@
 use Rattle.std.proofs.Common.{◌≡◌, ◌^◌, ◌<◌, Option, Some, None, map, get_or, refl, sym, ap, ◌∙◌, subst, arith}
 use Rattle.std.specs.Prelude.{position, IsNone}
 use Rattle.rv_model.specs.declared.instr.Op.TheVariants.{Add}
-use Rattle.rv_model.specs.Table.{ops, decoded}
+use Rattle.rv_model.specs.Table.{ops}
 use Rattle.rv_model.proofs.Decoding.{bits_of-decoded, decoded-well_formed}
 use Rattle.rv_table.specs.declared.rows.Row.{Row}
 use Rattle.rv_table.specs.Seen.{instr_fields, seen_parts}
