@@ -1,0 +1,4 @@
+pub mod Deepest
+pub mod Grows
+pub mod ExampleTrees
+mod ExamplePrograms

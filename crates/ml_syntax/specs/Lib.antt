@@ -1,0 +1,10 @@
+pub mod Role
+pub mod Tree
+pub mod Level
+pub mod Grammar
+pub mod Programs
+pub mod Laid
+pub mod Parses
+pub mod Depth
+pub mod Parts
+pub mod Arena
