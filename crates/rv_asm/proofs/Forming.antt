@@ -1,18 +1,16 @@
 -- The code of lines is well-formed.
-use Rattle.std.proofs.Common.{◌≡◌, ℕ, zero, suc, ◌+◌, ◌-◌, ◌*◌, ◌/◌, ◌%◌, ◌^◌, ◌<◌, ◌≤◌, ℤ, pos, negsuc, List, [], ◌∷◌, ◌++◌, Bool, true, false, Some, length, take, get_or, ⊎_elim, refl, sym, ap, ◌∙◌, subst, arith, lit<}
-use Rattle.std.specs.Prelude.{slice_get, nat_lt, nat_le, ◌==◌, ◌&&◌, if◌then◌else◌, IsTrue}
-use Rattle.std.proofs.lemmas.Bool.{lt-ltb, eq-eqb, and_from, cases_lt, leb-true, leb-false}
+use Rattle.std.proofs.Common.{◌≡◌, ℕ, zero, suc, ◌+◌, ◌-◌, ◌*◌, ◌/◌, ◌%◌, ◌^◌, ◌<◌, ◌≤◌, ℤ, pos, negsuc, List, [], ◌∷◌, Bool, true, false, Some, length, take, get_or, ⊎_elim, refl, sym, ap, ◌∙◌, subst, arith, lit<}
+use Rattle.std.specs.Prelude.{slice_get, nat_le, if◌then◌else◌}
+use Rattle.std.proofs.lemmas.Bool.{lt-ltb, eq-eqb, and_from, cases_lt, leb-false}
 use Rattle.std.proofs.lemmas.List.{take_all}
 use Rattle.std.proofs.lemmas.List.Sums.{fails_before_first}
 use Rattle.std.proofs.lemmas.Option.{slice_get-get_or, slice_get_within, get_or_from_slice_get}
 use Rattle.rv_model.specs.declared.instr.Op.{Op}
-use Rattle.rv_model.specs.declared.instr.Op.TheVariants.{Addi, Addiw, Slli, Lui, Jal, Beq, Bne, Blt, Bge, Bltu, Bgeu}
-use Rattle.rv_model.specs.declared.instr.Instr.{Instr}
+use Rattle.rv_model.specs.declared.instr.Op.TheVariants.{Addi, Addiw, Jal, Beq, Bne, Blt, Bge, Bltu, Bgeu}
 use Rattle.rv_model.specs.declared.line.Line.{Line}
 use Rattle.rv_model.specs.declared.line.Line.TheVariants.{Label, Plain, Branch, Jump, Const, CodeOf}
-use Rattle.rv_model.specs.Format.{Format, plain, signed, is_signed, is_even, fits}
-use Rattle.rv_model.specs.Format.{Branch as BranchFormat}
-use Rattle.rv_model.specs.Table.{format, IsWellFormed, AreWellFormed}
+use Rattle.rv_model.specs.Format.{plain, signed, is_signed, is_even, fits}
+use Rattle.rv_model.specs.Table.{IsWellFormed, AreWellFormed}
 use Rattle.rv_model.proofs.Fields.{signed-fits}
 use Rattle.rv_model.proofs.WellFormed.{well_formed-none, well_formed-first, well_formed-append}
 use Rattle.rv_asm.specs.Constant.{is_small, is_middle, pair, more_bits, large_constant, constant}

@@ -1,5 +1,5 @@
 -- Instructions lead from one line to the next, or to a label.
-use Rattle.std.proofs.Common.{◌≡◌, ℕ, zero, suc, ◌+◌, ◌-◌, ◌*◌, ◌/◌, ◌%◌, ◌^◌, ◌<◌, ◌≤◌, pos, negsuc, List, [], ◌∷◌, ◌++◌, length, Bool, true, false, not, Option, Some, None, refl, sym, ap, ◌∙◌, subst, arith}
+use Rattle.std.proofs.Common.{◌≡◌, ℕ, zero, suc, ◌+◌, ◌-◌, ◌*◌, ◌/◌, ◌%◌, ◌<◌, ◌≤◌, pos, negsuc, List, [], ◌∷◌, length, Bool, true, false, not, Some, None, refl, sym, ap, ◌∙◌, subst, arith}
 use Rattle.std.specs.Prelude.{slice_get, ◌==◌, nat_lt, nat_le, if◌then◌else◌}
 use Rattle.std.proofs.lemmas.Bool.{leb-true, leb-false}
 use Rattle.std.proofs.lemmas.Option.{slice_get_within}
@@ -9,7 +9,7 @@ use Rattle.rv_model.specs.declared.instr.Instr.{Instr}
 use Rattle.rv_model.specs.Word.{wrap, word_of, less}
 use Rattle.rv_model.specs.Format.{plain}
 use Rattle.rv_model.specs.Table.{Effect, Sets, AddsPc, Branches, Links, LinksTo, Loads, LoadsByte, Stores, Swaps, Adds, Masks, Exchanges, Calls, effect}
-use Rattle.rv_model.specs.Machine.{Regs, put, get, Hart, Plan, Moves, plan, planned, planned_if, fetch, moved, effect_of}
+use Rattle.rv_model.specs.Machine.{Regs, put, get, Hart, Moves, plan, planned, planned_if, fetch, effect_of}
 use Rattle.rv_model.specs.Block.{with_sets, block}
 use Rattle.rv_model.specs.Run.{IsLed}
 use Rattle.rv_asm.specs.Lines.{IsBranch, offset, opposite}

@@ -1,11 +1,11 @@
 -- Making branches long whose labels are out of reach never passes a layout that fits.
-use Rattle.std.proofs.Common.{◌≡◌, ℕ, zero, suc, ◌+◌, ◌-◌, ◌<◌, ◌≤◌, List, Bool, true, false, not, ◌&&◌, ◌||◌, Option, Some, None, ⊎_elim, refl, sym, ap, ◌∙◌, subst, arith}
+use Rattle.std.proofs.Common.{◌≡◌, ℕ, ◌+◌, ◌-◌, ◌<◌, ◌≤◌, List, Bool, true, false, not, ◌&&◌, ◌||◌, Option, Some, None, ⊎_elim, refl, sym, ap, ◌∙◌, subst, arith}
 use Rattle.std.specs.Prelude.{slice_get, nat_le}
 use Rattle.std.proofs.lemmas.Bool.{and_parts, and_from, cases_lt}
 use Rattle.rv_model.specs.declared.line.Line.{Line}
 use Rattle.rv_model.specs.declared.line.Line.TheVariants.{Label, Plain, Branch, Jump, Const, CodeOf}
-use Rattle.rv_asm.specs.Layout.{Layout, Fits, IsLeast, start_of, place_of, line_of, is_near, target_of}
-use Rattle.rv_asm.specs.Found.{is_far, is_far_if, is_far_at, grown}
+use Rattle.rv_asm.specs.Layout.{Layout, Fits, start_of, place_of, line_of, is_near}
+use Rattle.rv_asm.specs.Found.{is_far_if, is_far_at, grown}
 use Rattle.rv_asm.proofs.Starts.{between_grows, start_rises}
 
 le_true : (a b : ℕ) → nat_le a b ≡ true → a ≤ b

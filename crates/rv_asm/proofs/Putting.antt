@@ -1,12 +1,12 @@
 -- Running the instructions of a constant puts it into its register, and changes nothing else.
-use Rattle.std.proofs.Common.{◌≡◌, ℕ, zero, suc, ◌+◌, ◌-◌, ◌*◌, ◌/◌, ◌%◌, ◌^◌, ◌<◌, ◌≤◌, ℤ, pos, negsuc, List, [], ◌∷◌, ◌++◌, Bool, true, false, Option, Some, refl, sym, ap, ◌∙◌, subst, arith}
+use Rattle.std.proofs.Common.{◌≡◌, ℕ, zero, suc, ◌+◌, ◌-◌, ◌*◌, ◌/◌, ◌%◌, ◌^◌, ◌<◌, ◌≤◌, ℤ, pos, negsuc, List, [], ◌∷◌, ◌++◌, Bool, true, false, Option, Some, refl, ap, ◌∙◌, arith}
 use Rattle.std.specs.Prelude.{nat_lt, ◌==◌, if◌then◌else◌}
 use Rattle.std.proofs.lemmas.Bool.{ltb-true, ltb-false, eq-eqb}
-use Rattle.rv_model.specs.declared.instr.Op.TheVariants.{Addi, Addiw, Slli, Lui}
+use Rattle.rv_model.specs.declared.instr.Op.TheVariants.{Addi, Addiw, Slli}
 use Rattle.rv_model.specs.declared.instr.Instr.{Instr}
 use Rattle.rv_model.specs.Word.{wrap, word_of, word_32}
 use Rattle.rv_model.specs.Format.{plain, signed}
-use Rattle.rv_model.specs.Machine.{Regs, get, put}
+use Rattle.rv_model.specs.Machine.{Regs, put}
 use Rattle.rv_model.specs.Block.{block}
 use Rattle.rv_asm.specs.Constant.{is_small, is_middle, pair, more_bits, large_constant, constant}
 

@@ -1,8 +1,8 @@
 -- The code of lines does what the lines say.
-use Rattle.std.proofs.Common.{◌≡◌, ℕ, zero, suc, ◌+◌, ◌-◌, ◌*◌, ◌^◌, ◌<◌, ◌≤◌, List, [], ◌∷◌, ◌++◌, Bool, true, false, Some, length, take, get_or, refl, sym, ap, ◌∙◌, subst, arith, append_assoc, length-append}
+use Rattle.std.proofs.Common.{◌≡◌, ℕ, zero, suc, ◌+◌, ◌*◌, ◌<◌, ◌≤◌, List, [], ◌∷◌, ◌++◌, Bool, true, false, Some, length, take, refl, sym, ap, ◌∙◌, subst, arith, append_assoc, length-append}
 use Rattle.std.specs.Prelude.{slice_get, if◌then◌else◌}
 use Rattle.std.proofs.Math.Seq.{get_or-append_seam}
-use Rattle.std.proofs.lemmas.Option.{slice_get-get_or, slice_get_within}
+use Rattle.std.proofs.lemmas.Option.{slice_get-get_or}
 use Rattle.rv_model.specs.declared.instr.Op.{Op}
 use Rattle.rv_model.specs.declared.instr.Instr.{Instr}
 use Rattle.rv_model.specs.declared.line.Line.{Line}
@@ -14,7 +14,7 @@ use Rattle.rv_asm.specs.Lines.{IsDefined, IsLine, AreLines, size_of, line_code}
 use Rattle.rv_asm.specs.Layout.{Layout, Fits, count_of, start_of, place_of, target_of, code_from, code_of, Assembles}
 use Rattle.rv_asm.specs.Doing.{Leads, takes, Does, DoesLines}
 use Rattle.rv_asm.proofs.Starts.{start_more, size-few}
-use Rattle.rv_asm.proofs.Emitting.{start_within, code-length, code_more}
+use Rattle.rv_asm.proofs.Emitting.{code-length, code_more}
 use Rattle.rv_asm.proofs.Forming.{place_within}
 use Rattle.rv_asm.proofs.Putting.{constant_puts, address_puts}
 use Rattle.rv_asm.proofs.Leading.{HasAt, leads_block, leads_branch, leads_jump, leads_long}

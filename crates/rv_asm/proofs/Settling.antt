@@ -1,11 +1,11 @@
 -- Rounds until no branch is out of reach.
-use Rattle.std.proofs.Common.{◌≡◌, ℕ, zero, suc, ◌+◌, ◌*◌, ◌^◌, ◌<◌, ◌≤◌, List, [], ◌∷◌, ◌++◌, Bool, true, false, length, take, drop, get_or, replicate, ⊎_elim, refl, sym, ap, ◌∙◌, subst, arith}
-use Rattle.std.specs.Prelude.{slice_index, slice_get, if◌then◌else◌}
+use Rattle.std.proofs.Common.{◌≡◌, ℕ, zero, suc, ◌*◌, ◌^◌, ◌<◌, ◌≤◌, List, [], ◌∷◌, ◌++◌, Bool, true, false, length, take, drop, replicate, ⊎_elim, refl, sym, ap, ◌∙◌, subst, arith}
+use Rattle.std.specs.Prelude.{slice_index}
 use Rattle.std.proofs.lemmas.Bool.{cases_lt}
 use Rattle.std.proofs.lemmas.List.{get_or_past, length-replicate}
 use Rattle.std.proofs.lemmas.Option.{slice_get_past}
 use Rattle.rv_model.specs.declared.line.Line.{Line}
-use Rattle.rv_asm.specs.Layout.{Layout, Fits, IsLeast, start_of}
+use Rattle.rv_asm.specs.Layout.{Layout, Fits, IsLeast}
 use Rattle.rv_asm.specs.Found.{layout_of, is_far_if, is_far_at, grown, AreStarts, AreSettled}
 use Rattle.rv_asm.proofs.Starts.{start-few}
 use Rattle.rv_asm.proofs.Least.{grown-within, none_far-fits}

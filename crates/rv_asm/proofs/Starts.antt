@@ -1,5 +1,5 @@
 -- Where lines begin.
-use Rattle.std.proofs.Common.{◌≡◌, ℕ, zero, suc, ◌+◌, ◌*◌, ◌%◌, ◌^◌, ◌<◌, ◌≤◌, List, [], ◌∷◌, pos, Bool, true, false, Option, Some, None, length, get_or, take, ◌≢◌, ⊎_elim, refl, sym, ap, ◌∙◌, subst, arith}
+use Rattle.std.proofs.Common.{◌≡◌, ℕ, zero, suc, ◌+◌, ◌*◌, ◌%◌, ◌^◌, ◌<◌, ◌≤◌, List, [], ◌∷◌, Bool, true, false, Option, Some, None, length, get_or, take, ◌≢◌, ⊎_elim, refl, sym, ap, ◌∙◌, subst, arith}
 use Rattle.std.proofs.lemmas.List.{take_all, get_or-set_same, get_or-set_other}
 use Rattle.std.proofs.lemmas.Bool.{cases_lt}
 use Rattle.std.specs.Prelude.{slice_get, slice_set, slice_index, if◌then◌else◌}
@@ -9,7 +9,7 @@ use Rattle.rv_model.specs.declared.instr.Op.TheVariants.{Addi}
 use Rattle.rv_model.specs.Format.{plain, signed}
 use Rattle.rv_asm.specs.Constant.{is_small, is_middle, pair, large_constant}
 use Rattle.rv_asm.specs.Lines.{size_of}
-use Rattle.rv_asm.specs.Layout.{Layout, count_from, start_of, count_of}
+use Rattle.rv_asm.specs.Layout.{Layout, count_from, start_of}
 
 some_same : {A : Type 0} (a b : A) → Some a ≡ Some b → a ≡ b
 some_same a b e = cc

@@ -1,5 +1,5 @@
 -- Lines of the tests: plain instructions put between two lines keep lines well-formed.
-use Rattle.std.proofs.Common.{◌≡◌, ℕ, zero, suc, ◌+◌, ◌*◌, ◌<◌, ◌≤◌, List, [], ◌∷◌, ◌++◌, Some, false, pos, length, replicate, refl, sym, ap, ◌∙◌, subst, arith, length-append, Result, Ok, Err, IfOk, ◌⊎◌, inl, inr, ⊎_elim, lit<}
+use Rattle.std.proofs.Common.{◌≡◌, ℕ, zero, suc, ◌+◌, ◌*◌, ◌<◌, ◌≤◌, List, [], ◌∷◌, ◌++◌, Some, pos, length, replicate, refl, sym, ap, ◌∙◌, subst, arith, length-append, Result, Ok, Err, IfOk, ◌⊎◌, inl, inr, lit<}
 use Rattle.std.specs.Prelude.{slice_get}
 use Rattle.std.proofs.lemmas.List.{length-replicate}
 use Rattle.rv_model.specs.declared.instr.Op.TheVariants.{Addi, Beq, Bge, Ecall}

@@ -1,5 +1,5 @@
 -- What a line does when its instructions are run.
-use Rattle.std.specs.Prelude.{◌≡◌, ℕ, ◌+◌, ◌*◌, ◌<◌, ◌≤◌, ◌^◌, Bool, false, List, if◌then◌else◌, length, slice_get, Some}
+use Rattle.std.specs.Prelude.{◌≡◌, ℕ, ◌+◌, ◌*◌, ◌<◌, ◌≤◌, ◌^◌, Bool, false, List, if◌then◌else◌, slice_get, Some}
 use Rattle.rv_model.specs.declared.instr.Op.{Op}
 use Rattle.rv_model.specs.declared.instr.Instr.{Instr}
 use Rattle.rv_model.specs.declared.line.Line.{Line}
@@ -7,9 +7,7 @@ use Rattle.rv_model.specs.declared.line.Line.TheVariants.{Label, Plain, Branch, 
 use Rattle.rv_model.specs.Table.{Effect, Branches, effect}
 use Rattle.rv_model.specs.Machine.{Regs, get, put, Hart}
 use Rattle.rv_model.specs.Run.{IsLed}
-use Rattle.rv_asm.specs.declared.assembled.LabelPlace.{LabelPlace}
-use Rattle.rv_asm.specs.Lines.{AreLines}
-use Rattle.rv_asm.specs.Layout.{Layout, Assembles, start_of, place_of, target_of}
+use Rattle.rv_asm.specs.Layout.{Layout, start_of, place_of, target_of}
 
 -- the condition of a branch holds
 abbrev pub is_taken : Effect → Bool

@@ -1,11 +1,11 @@
 -- Lines of assembly: when they are well-formed, and the instructions that each stands for.
-use Rattle.std.specs.Prelude.{◌≡◌, ◌≢◌, ℕ, ◌+◌, ◌-◌, ◌*◌, ◌<◌, ℤ, pos, negsuc, List, [], ◌∷◌, Some, Bool, false, nat_le, ◌==◌, if◌then◌else◌, length, slice_get}
+use Rattle.std.specs.Prelude.{◌≡◌, ℕ, ◌+◌, ◌-◌, ◌*◌, ◌<◌, ℤ, pos, negsuc, List, [], ◌∷◌, Some, Bool, nat_le, if◌then◌else◌, length, slice_get}
 use Rattle.rv_model.specs.declared.instr.Op.{Op}
 use Rattle.rv_model.specs.declared.instr.Op.TheVariants.{Beq, Bne, Blt, Bge, Bltu, Bgeu, Jal}
 use Rattle.rv_model.specs.declared.instr.Instr.{Instr}
 use Rattle.rv_model.specs.declared.line.Line.{Line}
 use Rattle.rv_model.specs.declared.line.Line.TheVariants.{Label, Plain, Branch, Jump, Const, CodeOf}
-use Rattle.rv_model.specs.Format.{Format, plain}
+use Rattle.rv_model.specs.Format.{plain}
 use Rattle.rv_model.specs.Format.{Branch as BranchFormat}
 use Rattle.rv_model.specs.Table.{format, IsWellFormed}
 use Rattle.rv_asm.specs.Constant.{pair, constant}

@@ -1,4 +1,4 @@
-use Rattle.std.proofs.Common.{◌≡◌, ◌≤◌, ◌∙◌, length, subst, sym, ap, arith}
+use Rattle.std.proofs.Common.{◌≡◌, ◌∙◌, length, subst, sym, ap, arith}
 use Rattle.std.proofs.lemmas.List.{get_or_read, take_all}
 use Rattle.rv_model.specs.Table.{AreWellFormed}
 use Rattle.rv_asm.specs.Layout.{count_from, count_of, place_of}

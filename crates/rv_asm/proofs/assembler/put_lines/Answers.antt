@@ -1,11 +1,10 @@
-use Rattle.std.proofs.Common.{◌≡◌, ◌≤◌, ◌∙◌, false, get_or, length, take, ap, arith}
+use Rattle.std.proofs.Common.{◌≡◌, ◌∙◌, false, get_or, arith}
 use Rattle.std.specs.Prelude.{slice_index}
-use Rattle.std.proofs.lemmas.List.{get_or_read, take_all}
+use Rattle.std.proofs.lemmas.List.{get_or_read}
 use Rattle.std.proofs.lemmas.Option.{slice_get-get_or}
 use Rattle.rv_model.specs.declared.line.Line.TheVariants.{Label}
-use Rattle.rv_asm.specs.Layout.{start_of, place_of, code_from, target_of}
-use Rattle.rv_asm.specs.Found.{layout_of, line_named}
-use Rattle.rv_asm.proofs.Lengthening.{named_at, named_below, place_found}
+use Rattle.rv_asm.specs.Found.{layout_of}
+use Rattle.rv_asm.proofs.Lengthening.{named_below, place_found}
 use Rattle.rv_asm.proofs.Emitting.{start_within, emit_more}
 use Rattle.rv_asm.proofs.assembler.put_lines.Goals as goal
 

@@ -1,4 +1,4 @@
-use Rattle.std.proofs.Common.{◌≡◌, ◌∙◌, true, false, sym, arith}
+use Rattle.std.proofs.Common.{◌∙◌, sym, arith}
 use Rattle.std.proofs.lemmas.Option.{slice_get-get_or}
 use Rattle.rv_model.specs.declared.line.Line.TheVariants.{Label}
 use Rattle.rv_asm.proofs.Lengthening.{lengthened_none, lengthened_far, lengthened_near, named_below, far_found, far_short}

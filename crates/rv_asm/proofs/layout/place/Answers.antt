@@ -1,4 +1,4 @@
-use Rattle.std.proofs.Common.{arith, refl, ap, ◌+◌}
+use Rattle.std.proofs.Common.{arith, ap, ◌+◌}
 use Rattle.std.specs.Prelude.{slice_index}
 use Rattle.std.proofs.lemmas.Option.{slice_get-get_or}
 use Rattle.rv_model.specs.declared.line.Line.TheVariants.{Label}

@@ -1,7 +1,6 @@
-use Rattle.std.proofs.Common.{◌≡◌, ◌+◌, ◌*◌, ◌<◌, ◌^◌, ◌∙◌, length, subst, sym, ap, arith}
-use Rattle.std.specs.Prelude.{slice_index}
-use Rattle.rv_asm.specs.Found.{layout_of, AreStarts}
-use Rattle.rv_asm.proofs.Settling.{put_back, starts_small, rounds_none, rounds_more, rounds_end}
+use Rattle.std.proofs.Common.{◌*◌, ◌<◌, ◌^◌, ◌∙◌, length, arith}
+use Rattle.rv_asm.specs.Found.{layout_of}
+use Rattle.rv_asm.proofs.Settling.{put_back, starts_small, rounds_more, rounds_end}
 use Rattle.rv_asm.proofs.layout.settle.Goals as goal
 
 pub lengthen-requires-clause-few : goal.lengthen-requires-clause-few

@@ -1,7 +1,6 @@
-use Rattle.std.proofs.Common.{◌∙◌, false, pos, arith}
+use Rattle.std.proofs.Common.{◌∙◌, pos, arith}
 use Rattle.std.proofs.lemmas.Option.{slice_get-get_or}
 use Rattle.rv_model.specs.declared.instr.Op.TheVariants.{Add}
-use Rattle.rv_model.specs.declared.instr.Instr.{Instr}
 use Rattle.rv_model.specs.Format.{plain}
 use Rattle.rv_model.proofs.WellFormed.{well_formed_at}
 use Rattle.rv_asm.specs.Listing.{code_lines}

@@ -1,4 +1,4 @@
-use Rattle.std.proofs.Common.{◌/◌, ◌%◌, [], ◌∷◌, ◌++◌, get_or, ap, ◌∙◌, arith}
+use Rattle.std.proofs.Common.{◌/◌, [], ◌∷◌, ◌++◌, get_or, ap, ◌∙◌, arith}
 use Rattle.std.proofs.lemmas.Option.{slice_get-get_or}
 use Rattle.rv_asm.proofs.Printing.{hex_none, hex_more, before_all}
 use Rattle.rv_asm.specs.Text.{hex_digit, hex_bytes}
