@@ -16,8 +16,6 @@ mod level;
 mod node;
 mod node_depth;
 mod nodes;
-mod pieces;
-mod printing;
 mod prog;
 mod role;
 mod sequence;
@@ -32,7 +30,6 @@ pub use node::{
     Node,
 };
 pub use nodes::Nodes;
-pub use printing::print;
 pub use prog::{
     ConstructorDefinition, EffectDefinition, FieldDefinition, Item, Prog, TypeBody, TypeDefinition,
     depth,
