@@ -29,9 +29,11 @@ void *realloc(void *block, size_t size) {
   return refuse() ? NULL : next(block, size);
 }
 __attribute__((destructor)) static void tell(void) {
+  long counted = count;
   const char *path = getenv("COUNTED");
+  refused = 0;
   FILE *file = path ? fopen(path, "w") : NULL;
-  if (file) { fprintf(file, "%ld\n", count); fclose(file); }
+  if (file) { fprintf(file, "%ld\n", counted); fclose(file); }
 }
 END
 gcc -shared -fPIC -O1 -o "$scratch/refuse.so" "$scratch/refuse.c" -ldl || exit 1
