@@ -2,15 +2,16 @@
 
 ghost use Rattle.std.specs.Prelude.{◌≡◌, None, IfOk};
 
-use effects_top::{Outcome, effects_main};
-use fx_base::{MemFiles, MemSink, NamedFile, NoGate, Refusal, Written};
+use effects_top::{Outcome, compile_file, effects_main, run_file};
+use fx_base::{MemFiles, MemSink, NamedFile, NoGate, Refusal, Settings, Turns, Written};
+use rv_model::RunEnd;
 use std::alloc::{AllocError, Global};
 use std::sync::Wait;
 use std::test::Fail;
 use std::thread::Threads;
 
 /// More bytes than a write or a line here has.
-const AMPLE: usize = 4096;
+const AMPLE: usize = 16384;
 
 const ANSWER: &str = "let () = print_int (6 * (3 + 4))\n";
 
@@ -102,6 +103,37 @@ fn prints_one_number(rt: HostRuntime) -> Result<(), Fail> {
         assert_eq!(rt; left.out.held(), printed.as_bytes(), "{text}");
         assert_eq!(rt; left.err.held(), b"".as_slice(), "{text}");
     }
+    Ok(())
+}
+
+#[test]
+fn lists_an_image(rt: HostRuntime) -> Result<(), Fail> {
+    let head =
+        b"image 1048576 131072 1048576 1073741824 4 133216\n00000000 00050463 beq x10, x0, 8\n";
+    let last = b"word 7 0000000000100000\nword 10 0000000000000001\nword 11 0000000000000004\n";
+    let left = call(&rt, rt.alloc(), &["asm", "a.ml"], ANSWER.as_bytes(), NONE)?;
+    assert_eq!(rt; left.outcome.status.0, 0);
+    assert_eq!(rt; left.outcome.written, Some(Written::Whole));
+    assert!(rt; left.outcome.image.is_some() && left.outcome.report.is_none());
+    assert!(rt; left.out.held().starts_with(head));
+    assert!(rt; left.out.held().ends_with(last));
+    assert_eq!(rt; left.err.held(), b"".as_slice());
+    Ok(())
+}
+
+#[test]
+fn compiles_and_runs_a_file(rt: HostRuntime) -> Result<(), Fail> {
+    let settings = Settings::usual();
+    let mut files = one_file(rt.alloc(), ANSWER.as_bytes(), &[])?;
+    let image = compile_file(rt.alloc(), &mut files, "a.ml", &settings)?;
+    assert_eq!(rt; image.size, 133_216);
+    let mut files = one_file(rt.alloc(), ANSWER.as_bytes(), &[])?;
+    let mut out = sink(rt.alloc(), &[], AMPLE)?;
+    let turns = Turns::usual();
+    let ran = run_file(rt.alloc(), &mut files, "a.ml", &settings, turns, &mut out)?;
+    assert!(rt; matches!(ran.report.end, RunEnd::Exited(0)));
+    assert_eq!(rt; ran.written, Written::Whole);
+    assert_eq!(rt; out.held(), b"42".as_slice());
     Ok(())
 }
 
