@@ -1,0 +1,8 @@
+//! Builds the arena of a program from the reductions of its parse.
+#![tactic(auto)]
+
+mod reduction;
+mod stack;
+mod types;
+
+pub use reduction::{Reduction, Rule};
