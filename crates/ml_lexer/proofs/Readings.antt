@@ -1,7 +1,7 @@
 use Rattle.std.proofs.Common.{◌≡◌, ◌⊎◌, inl, inr, ℕ, zero, ◌+◌, ◌-◌, ◌<◌, ◌≤◌, All, List, [], ◌∷◌, ◌++◌, length, take, drop, map, Option, Some, None, Ok, Err, refl, sym, ◌∙◌, ap, subst, arith, append_assoc, length-drop}
 use Rattle.std.specs.Prelude.{◌≢◌, Result, option_map}
 use Rattle.std.proofs.Math.Seq.{take-append_seam, drop-append_seam}
-use Rattle.std.proofs.lemmas.List.{drop-drop, length-take-le, map-append}
+use Rattle.std.proofs.lemmas.List.{take-append-drop, drop-drop, length-take-le, map-append}
 use Rattle.std.proofs.lemmas.List.Elements.{All-nil, All-cons, All-append}
 use Rattle.fx_base.specs.declared.refusal.Place.{Place}
 use Rattle.ml_lexer.specs.declared.piece.Sort.{Sort}
@@ -88,6 +88,14 @@ cut_preserved bs at n place next sort items more i e m p =
     ap (λ ls. map (lexeme_at bs) items ++ ls) seen ∙ sym (map-append (lexeme_at bs) items (made sort at n place)) ∙ ap (map (lexeme_at bs)) (sym m) in
     i ∙ ap (behind (map (lexeme_at bs) items)) (read_more (drop at bs) place r.piece f r.first) ∙ behind_twice (map (lexeme_at bs) items) (one place r.piece) (read_from (place_after place us) f.rest)
     ∙ ap (λ ls. behind ls (read_from (place_after place us) f.rest)) all ∙ ap (λ q. behind (map (lexeme_at bs) more) (read_from q f.rest)) moved ∙ ap (λ vs. behind (map (lexeme_at bs) more) (read_from next vs)) rest
+
+-- the place behind the text, as the loop sees it
+pub moved_preserved : (bs : List ℕ) (at n : ℕ) (place next : Place) → place_after first_place bs ≡ place_after place (drop at bs) → next ≡ place_after place (take (at + n - at) (drop at bs)) → place_after first_place bs ≡ place_after next (drop (at + n) bs)
+moved_preserved bs at n place next i p =
+    let rest = drop at bs in
+    let moved : place_after place (take n rest) ≡ next = ap (place_after place) (sym (part_slice at n bs)) ∙ sym p in
+    i ∙ ap (place_after place) (sym (take-append-drop n rest)) ∙ place_append (take n rest) (drop n rest) place
+    ∙ ap (λ q. place_after q (drop n rest)) moved ∙ ap (place_after next) (drop-drop n at bs)
 
 -- no piece, as the loop sees it
 pub cut_stops : (bs : List ℕ) (at : ℕ) (place : Place) (ls : List Lexeme) → at < length bs → read_from first_place bs ≡ behind ls (read_from place (drop at bs)) → None ≡ option_map found_of (first_piece (take (length bs - at) (drop at bs))) → read_from first_place bs ≡ Err place

@@ -19,6 +19,15 @@ pub record LiesIn (source : List ℕ) (t : Token) : Type 0 where
   pub ordered : t.from ≤ t.to
   pub within : t.to ≤ length source
 
+-- the tokens of a text, and the place behind its last byte
+pub record LexedText : Type 0 where
+  pub lexemes : List Lexeme
+  pub ending : Place
+
+-- the tokens of this source, which ends at a place
+abbrev pub lexed_text : List ℕ → List Token → Place → LexedText
+lexed_text source items ending = record { lexemes = map (lexeme_at source) items; ending = ending }
+
 -- the bytes of each token
 abbrev pub texts : List Lexeme → List (List ℕ)
 texts ls = map (λ l. l.text) ls

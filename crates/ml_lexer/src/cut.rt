@@ -54,11 +54,12 @@ fn add(
     Ok(())
 }
 
-// The tokens of a text, or the place where no piece begins.
-fn cut(alloc: Global, bytes: &[u8]) -> Result<Result<Vec<Token>, Place>, AllocError>
+// The tokens of a text and the place behind it, or the place where no piece begins.
+fn cut(alloc: Global, bytes: &[u8]) -> Result<Result<(Vec<Token>, Place), Place>, AllocError>
     requires { length bytes.now ≤ 16777216 }
-    ensures read { IfOk result (λ found. IfOk found (λ tokens. read_from first_place bytes.now ≡ Ok (map (lexeme_at bytes.now) tokens.items))) }
-    ensures lies { IfOk result (λ found. IfOk found (λ tokens. All (LiesIn bytes.now) tokens.items)) }
+    ensures read { IfOk result (λ found. IfOk found (λ all. read_from first_place bytes.now ≡ Ok (map (lexeme_at bytes.now) all.0.items))) }
+    ensures lies { IfOk result (λ found. IfOk found (λ all. All (LiesIn bytes.now) all.0.items)) }
+    ensures end { IfOk result (λ found. IfOk found (λ all. all.1 ≡ place_after first_place bytes.now)) }
     ensures fault { IfOk result (λ found. IfErr found (λ place. read_from first_place bytes.now ≡ Err place)) }
 {
     let mut tokens = Vec::new(alloc);
@@ -72,10 +73,10 @@ fn cut(alloc: Global, bytes: &[u8]) -> Result<Result<Vec<Token>, Place>, AllocEr
         place = advanced(place, &bytes[at..at + length]);
         at += length;
     }
-    Ok(Ok(tokens))
+    Ok(Ok((tokens, place)))
 }
 
-/// The one list of tokens of a text of at most 16,777,216 bytes.
+/// The one list of tokens of a text of at most 16,777,216 bytes, and the place behind the text.
 ///
 /// # Errors
 ///
@@ -83,14 +84,15 @@ fn cut(alloc: Global, bytes: &[u8]) -> Result<Result<Vec<Token>, Place>, AllocEr
 /// byte at which neither a blank nor a comment nor a token begins; and [`Refusal::Memory`].
 pub fn lex(alloc: Global, bytes: &[u8]) -> Result<Tokens, Refusal>
     requires { length bytes.now ≤ 16777216 }
-    ensures ok { IfOk result (λ tokens. Lexes bytes.now tokens) }
-    ensures one { IfOk result (λ tokens. (other : List Lexeme) → Lexes bytes.now other → other ≡ tokens) }
+    ensures ok { IfOk result (λ tokens. Lexes bytes.now tokens.lexemes) }
+    ensures one { IfOk result (λ tokens. (other : List Lexeme) → Lexes bytes.now other → other ≡ tokens.lexemes) }
+    ensures end { IfOk result (λ tokens. tokens.ending ≡ place_after first_place bytes.now) }
     ensures syntax { IfErr result (λ refusal. IsSyntax refusal → (other : List Lexeme) → Lexes bytes.now other → ⊥) }
     ensures refused { IfErr result (λ refusal. IsRefused bytes.now refusal) }
     ensures place { IfErr result (λ refusal. (place : Place) → FaultsAt bytes.now place → IsSyntax refusal → refusal ≡ Syntax place) }
 {
     match cut(alloc, bytes)? {
-        Ok(tokens) => Ok(Tokens::new(bytes.to_vec(alloc)?, tokens)),
+        Ok((tokens, end)) => Ok(Tokens::new(bytes.to_vec(alloc)?, tokens, end)),
         Err(place) => Err(Refusal::Syntax(place)),
     }
 }

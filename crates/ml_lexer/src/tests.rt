@@ -218,6 +218,27 @@ fn lexes_worked_texts(rt: HostRuntime) -> Result<(), Fail> {
     Ok(())
 }
 
+// Texts, each with the line and column behind its last byte.
+const ENDS: &[(&[u8], u32, u32)] = &[
+    (b"", 1, 1),
+    (b"a", 1, 2),
+    (b"a \r\n", 2, 1),
+    (b"(*\n*) \"\n\\\n\" a\n\tb ", 5, 4),
+];
+
+#[test]
+fn tells_the_end(rt: HostRuntime) -> Result<(), Fail> {
+    for (text, line, column) in ENDS {
+        assert!(rt; text.len() <= 100);
+        let end = Place {
+            line: *line,
+            column: *column,
+        };
+        assert_eq!(rt; lex(rt.alloc(), text)?.end(), end, "of {text:?}");
+    }
+    Ok(())
+}
+
 #[test]
 fn reads_values(rt: HostRuntime) -> Result<(), Fail> {
     assert_eq!(rt; integer_value(b"1_2_"), Some(12));

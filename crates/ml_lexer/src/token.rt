@@ -1,7 +1,7 @@
 //! The tokens of a source text.
 
-ghost use Rattle.std.specs.Prelude.{◌≡◌, ◌+◌, ◌<◌, ◌≤◌, ◌↔◌, List, [], ◌∷◌, IsTrue, All, length, map, drop, get_or};
-ghost use Rattle.ml_lexer.specs.Lexeme.{lexeme_at, LiesIn, texts};
+ghost use Rattle.std.specs.Prelude.{◌≡◌, ◌+◌, ◌<◌, ◌≤◌, ◌↔◌, List, [], ◌∷◌, IsTrue, All, length, drop, get_or};
+ghost use Rattle.ml_lexer.specs.Lexeme.{lexed_text, LiesIn, texts};
 ghost use Rattle.ml_lexer.specs.Seen.{seen};
 
 use fx_base::Place;
@@ -225,20 +225,21 @@ pub struct Token {
     pub place: Place,
 }
 
-/// A source text and its tokens, in the order of the text.
+/// A source text, its tokens in the order of the text, and the place behind its last byte.
 #[derive(Debug, Drop)]
 pub struct Tokens {
     source: Vec<u8>,
     items: Vec<Token>,
+    end: Place,
 }
 
 impl Model for Tokens {
-    ghost use Rattle.std.specs.Prelude.{List, map, All};
-    ghost use Rattle.ml_lexer.specs.Lexeme.{Lexeme, lexeme_at, LiesIn};
+    ghost use Rattle.std.specs.Prelude.{All};
+    ghost use Rattle.ml_lexer.specs.Lexeme.{LexedText, lexed_text, LiesIn};
 
-    ghost Value = { List Lexeme };
+    ghost Value = { LexedText };
 
-    ghost view = { λ a. map (lexeme_at a.source.items) a.items.items };
+    ghost view = { λ a. lexed_text a.source.items a.items.items a.end };
 
     ghost invariant = { λ a. All (LiesIn a.source.items) a.items.items };
 }
@@ -253,31 +254,31 @@ pub struct TokenView<'a> {
 
 impl Tokens {
     // The tokens of a source text, each of which spans bytes of it.
-    pub(crate) fn new(source: Vec<u8>, items: Vec<Token>) -> Tokens
+    pub(crate) fn new(source: Vec<u8>, items: Vec<Token>, end: Place) -> Tokens
         requires { All (LiesIn source.items) items.items }
-        ensures { result ≡ map (lexeme_at source.items) items.items }
+        ensures { result ≡ lexed_text source.items items.items end }
     {
-        Tokens { source, items }
+        Tokens { source, items, end }
     }
 
     /// How many tokens there are.
     pub fn len(&self) -> usize
-        ensures { result ≡ length self.now }
+        ensures { result ≡ length self.now.lexemes }
     {
         self.items.len()
     }
 
     /// Whether there is no token.
     pub fn is_empty(&self) -> bool
-        ensures { IsTrue result ↔ (self.now ≡ []) }
+        ensures { IsTrue result ↔ (self.now.lexemes ≡ []) }
     {
         self.items.is_empty()
     }
 
     /// The token of a number, from 0.
     pub fn view(&self, i: usize) -> TokenView<'_>
-        requires { i < length self.now }
-        ensures { drop i self.now ≡ seen result ∷ drop (i + 1) self.now }
+        requires { i < length self.now.lexemes }
+        ensures { drop i self.now.lexemes ≡ seen result ∷ drop (i + 1) self.now.lexemes }
     {
         let token = self.items[i];
         TokenView {
@@ -286,12 +287,19 @@ impl Tokens {
             place: token.place,
         }
     }
+
+    /// The place behind the last byte of the text.
+    pub fn end(&self) -> Place
+        ensures { result ≡ self.now.ending }
+    {
+        self.end
+    }
 }
 
 /// The bytes of the token of a number, from 0.
 pub fn token_text(tokens: &Tokens, i: usize) -> &[u8]
-    requires { i < length tokens.now }
-    ensures { result.now ≡ get_or (texts tokens.now) i [] }
+    requires { i < length tokens.now.lexemes }
+    ensures { result.now ≡ get_or (texts tokens.now.lexemes) i [] }
 {
     tokens.view(i).text
 }
