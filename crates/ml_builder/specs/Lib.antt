@@ -1,6 +1,13 @@
+pub mod Bindings
+pub mod Clauses
+pub mod Expressions
 pub mod Finished
+pub mod Handlers
 pub mod Leaves
+pub mod Named
 pub mod Names
+pub mod Operators
 pub mod Patterns
+pub mod Records
 pub mod Stack
 pub mod Types

@@ -1,10 +1,17 @@
 //! Builds the arena of a program from the reductions of its parse.
 #![tactic(auto)]
 
+mod bindings;
+mod clauses;
+mod expressions;
 mod finish;
+mod handlers;
 mod leaves;
+mod named;
 mod names;
+mod operators;
 mod patterns;
+mod records;
 mod reduction;
 mod stack;
 mod types;

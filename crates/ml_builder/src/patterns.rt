@@ -29,7 +29,11 @@ pub fn build_pattern(
         Rule::PatternAnnotated => {
             let annotation = numbers.pop()?;
             let inner = numbers.pop()?;
-            let node = Node::PatternAnnotated { place, inner, annotation };
+            let node = Node::PatternAnnotated {
+                place,
+                inner,
+                annotation,
+            };
             finish(node, numbers, nodes)
         }
         Rule::PatternList => {
