@@ -1,8 +1,10 @@
 pub mod Bindings
 pub mod Clauses
+pub mod Definitions
 pub mod Expressions
 pub mod Finished
 pub mod Handlers
+pub mod Items
 pub mod Leaves
 pub mod Named
 pub mod Names

@@ -3,9 +3,11 @@
 
 mod bindings;
 mod clauses;
+mod definitions;
 mod expressions;
 mod finish;
 mod handlers;
+mod items;
 mod leaves;
 mod named;
 mod names;
