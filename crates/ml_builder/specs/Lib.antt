@@ -11,5 +11,7 @@ pub mod Names
 pub mod Operators
 pub mod Patterns
 pub mod Records
+pub mod Reduced
+pub mod Sort
 pub mod Stack
 pub mod Types

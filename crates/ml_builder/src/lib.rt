@@ -2,6 +2,7 @@
 #![tactic(auto)]
 
 mod bindings;
+mod building;
 mod clauses;
 mod definitions;
 mod expressions;
@@ -13,9 +14,13 @@ mod named;
 mod names;
 mod operators;
 mod patterns;
+mod program;
 mod records;
+mod reduce;
 mod reduction;
+mod sort;
 mod stack;
 mod types;
 
+pub use program::build;
 pub use reduction::{Reduction, Rule};

@@ -2,7 +2,7 @@
 
 ghost use Rattle.std.specs.Prelude.{◌≡◌, ◌-◌, ◌∷◌, map, take, Some, IfOk, OnOk};
 ghost use Rattle.ml_lexer.specs.Seen.{seen};
-ghost use Rattle.ml_builder.specs.Names.{made_long_name, made_word, place_before};
+ghost use Rattle.ml_builder.specs.Names.{made_long_name, made_word, place_before, pushed_long_name};
 
 use crate::stack::Stack;
 use fx_base::Place;
@@ -48,6 +48,20 @@ pub fn take_long_name(
     let place = place_before(names.as_slice(), &last);
     let path = texts_of(alloc, names.as_slice())?;
     Ok(LongName { place, path, last })
+}
+
+/// One more long name, of so many words.
+#[tactic(auto, unfolding(crate::specs::Names::pushed_long_name))]
+pub fn build_long_name(
+    alloc: Global,
+    count: usize,
+    words: &mut Stack<Name>,
+    long_names: &mut Stack<LongName>,
+) -> Result<(), AllocError>
+    ensures { OnOk result (pushed_long_name count words.old long_names.old ≡ Some (words.new, long_names.new)) }
+{
+    let name = take_long_name(alloc, count, words)?;
+    long_names.push(name)
 }
 
 /// One more word.
