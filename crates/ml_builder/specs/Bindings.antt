@@ -1,5 +1,5 @@
 -- Bindings, and the forms that have them as their parts.
-use Rattle.std.specs.Prelude.{ℕ, true, false, List, [], ◌∷◌, ◌++◌, drop, Option, Some, None}
+use Rattle.std.specs.Prelude.{ℕ, true, false, List, ◌∷◌, drop, Option, Some, None}
 use Rattle.fx_base.specs.declared.refusal.Place.{Place}
 use Rattle.ml_syntax.specs.declared.node.Name.{Name}
 use Rattle.ml_syntax.specs.declared.node.Binding.{Binding}

@@ -1,5 +1,5 @@
 -- Clauses, and the forms that have them as their parts.
-use Rattle.std.specs.Prelude.{ℕ, List, [], ◌∷◌, ◌++◌, drop, Option, Some, None}
+use Rattle.std.specs.Prelude.{ℕ, List, ◌∷◌, drop, Option, Some, None}
 use Rattle.fx_base.specs.declared.refusal.Place.{Place}
 use Rattle.ml_syntax.specs.declared.node.Clause.{Clause}
 use Rattle.ml_syntax.specs.declared.node.Clause.TheVariants as clause

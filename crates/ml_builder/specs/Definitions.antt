@@ -1,5 +1,5 @@
 -- The definitions of types, exceptions and effects.
-use Rattle.std.specs.Prelude.{ℕ, ◌-◌, true, false, List, [], ◌∷◌, drop, Option, Some, None}
+use Rattle.std.specs.Prelude.{ℕ, ◌-◌, true, false, List, ◌∷◌, drop, Option, Some, None}
 use Rattle.ml_syntax.specs.declared.node.Name.{Name}
 use Rattle.ml_syntax.specs.declared.prog.ConstructorDefinition.{ConstructorDefinition}
 use Rattle.ml_syntax.specs.declared.prog.FieldDefinition.{FieldDefinition}

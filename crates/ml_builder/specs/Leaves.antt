@@ -1,5 +1,5 @@
 -- The forms of one token.
-use Rattle.std.specs.Prelude.{ℕ, List, [], ◌∷◌, ◌++◌, length, Option, Some, None}
+use Rattle.std.specs.Prelude.{ℕ, List, Option, None}
 use Rattle.ml_lexer.specs.Lexeme.{Lexeme}
 use Rattle.ml_syntax.specs.declared.node.Node.{Node}
 use Rattle.ml_syntax.specs.declared.node.Node.TheVariants as node

@@ -1,5 +1,5 @@
 -- The forms that have words or a long name as a part.
-use Rattle.std.specs.Prelude.{ℕ, Bool, true, false, List, [], ◌∷◌, ◌++◌, drop, Option, Some, None, option_and_then}
+use Rattle.std.specs.Prelude.{ℕ, true, false, List, ◌∷◌, drop, Option, Some, None, option_and_then}
 use Rattle.fx_base.specs.declared.refusal.Place.{Place}
 use Rattle.ml_syntax.specs.declared.node.Name.{Name}
 use Rattle.ml_syntax.specs.declared.node.LongName.{LongName}

@@ -5,8 +5,6 @@ use Rattle.ml_lexer.specs.Lexeme.{Lexeme}
 use Rattle.ml_syntax.specs.declared.node.Name.{Name}
 use Rattle.ml_syntax.specs.declared.node.LongName.{LongName}
 use Rattle.ml_syntax.specs.Laid.{name_of}
-use Rattle.ml_builder.specs.declared.reduction.Rule.{Rule}
-use Rattle.ml_builder.specs.declared.reduction.Rule.TheVariants as rule
 use Rattle.ml_builder.specs.Stack.{top}
 
 -- the place of the first of some names and one more

@@ -1,5 +1,5 @@
 -- Operators, applications and elements.
-use Rattle.std.specs.Prelude.{ℕ, List, [], ◌∷◌, ◌++◌, drop, Option, None}
+use Rattle.std.specs.Prelude.{ℕ, List, [], ◌∷◌, drop, Option, None}
 use Rattle.fx_base.specs.declared.refusal.Place.{Place}
 use Rattle.ml_syntax.specs.declared.node.Node.{Node}
 use Rattle.ml_syntax.specs.declared.node.Node.TheVariants as node

@@ -1,5 +1,5 @@
 -- The forms of patterns that have patterns as their parts.
-use Rattle.std.specs.Prelude.{ℕ, List, [], ◌∷◌, ◌++◌, drop, Option, None}
+use Rattle.std.specs.Prelude.{ℕ, List, ◌∷◌, drop, Option, None}
 use Rattle.fx_base.specs.declared.refusal.Place.{Place}
 use Rattle.ml_syntax.specs.declared.node.Node.{Node}
 use Rattle.ml_syntax.specs.declared.node.Node.TheVariants as node

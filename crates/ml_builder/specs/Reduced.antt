@@ -1,5 +1,5 @@
 -- What the reductions of a parse build.
-use Rattle.std.specs.Prelude.{ℕ, List, [], ◌∷◌, Option, Some, None, option_map, option_and_then, slice_get}
+use Rattle.std.specs.Prelude.{ℕ, List, [], ◌∷◌, Option, Some, option_map, option_and_then, slice_get}
 use Rattle.ml_lexer.specs.Lexeme.{Lexeme}
 use Rattle.ml_syntax.specs.declared.node.Node.{Node}
 use Rattle.ml_syntax.specs.declared.prog.Prog.{Prog}

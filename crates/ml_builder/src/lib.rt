@@ -20,6 +20,8 @@ mod reduce;
 mod reduction;
 mod sort;
 mod stack;
+#[cfg(test)]
+mod tests;
 mod types;
 
 pub use program::build;

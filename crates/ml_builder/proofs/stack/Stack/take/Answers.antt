@@ -1,4 +1,4 @@
-use Rattle.std.proofs.Common.{◌≡◌, ◌-◌, ◌≤◌, length, drop, take, reverse, List, ◌∙◌, sym, ap, arith}
+use Rattle.std.proofs.Common.{arith}
 use Rattle.ml_builder.proofs.Stacks.{last_of_items, first_of_items}
 use Rattle.ml_builder.proofs.stack.Stack.take.Goals as goal
 
