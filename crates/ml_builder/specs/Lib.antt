@@ -1,1 +1,17 @@
+pub mod Bindings
+pub mod Clauses
+pub mod Definitions
+pub mod Expressions
+pub mod Finished
+pub mod Handlers
+pub mod Items
+pub mod Leaves
+pub mod Named
+pub mod Names
+pub mod Operators
+pub mod Patterns
+pub mod Records
+pub mod Reduced
+pub mod Sort
+pub mod Stack
 pub mod Types

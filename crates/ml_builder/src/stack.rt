@@ -1,6 +1,7 @@
 //! Stacks of what is read.
 
-ghost use Rattle.std.specs.Prelude.{◌≡◌, [], ◌∷◌, IfOk, OnOk, take, drop, reverse, length};
+ghost use Rattle.std.specs.Prelude.{◌≡◌, [], ◌∷◌, IfOk, OnOk, drop};
+ghost use Rattle.ml_builder.specs.Stack.{top};
 
 use ml_syntax::Sequence;
 use std::alloc::{AllocError, Global};
@@ -46,5 +47,18 @@ impl<T: Drop> Stack<T> {
             Some(item) => Ok(item),
             None => Err(AllocError),
         }
+    }
+
+    /// Takes so many values off, and gives them in the order in which they were pushed. A stack of
+    /// fewer is refused as memory is.
+    pub fn take(&mut self, count: usize) -> Result<Sequence<T>, AllocError>
+        ensures taken { IfOk result (λ values. values ≡ top count self.old) }
+        ensures left { OnOk result (self.new ≡ drop count self.old) }
+    {
+        if count > self.items.len() {
+            return Err(AllocError);
+        }
+        let values = self.items.split_off(self.items.len() - count)?;
+        Ok(Sequence::from_vec(values))
     }
 }

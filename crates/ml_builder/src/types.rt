@@ -1,38 +1,34 @@
-//! Types.
+//! The forms of types that have parts.
 
-ghost use Rattle.std.specs.Prelude.{◌≡◌, [], ◌∷◌, ◌++◌, Some, length, OnOk};
-ghost use Rattle.ml_builder.specs.Types.{type_parts};
+ghost use Rattle.std.specs.Prelude.{◌≡◌, Some, OnOk};
+ghost use Rattle.ml_builder.specs.Types.{made_type};
 
+use crate::finish::finish;
 use crate::reduction::Rule;
 use crate::stack::Stack;
 use fx_base::Place;
 use ml_syntax::{Node, Nodes};
 use std::alloc::AllocError;
 
-/// Appends a node, whose number is the top of the numbers.
-pub fn finish(node: Node, numbers: &mut Stack<u32>, nodes: &mut Nodes) -> Result<(), AllocError>
-    ensures nodes { OnOk result (nodes.new ≡ nodes.old ++ node ∷ []) }
-    ensures numbers { OnOk result (numbers.new ≡ length nodes.old ∷ numbers.old) }
-{
-    nodes.push(node)?;
-    numbers.push(nodes.last_number())
-}
-
 /// A form of types.
-#[tactic(auto, unfolding(crate::specs::Types::type_parts))]
-pub fn close_type(
+#[tactic(auto, unfolding(crate::specs::Types::made_type))]
+pub fn build_type(
     rule: Rule,
     place: Place,
+    count: usize,
     numbers: &mut Stack<u32>,
     nodes: &mut Nodes,
 ) -> Result<(), AllocError>
-    ensures { OnOk result (type_parts rule place numbers.old nodes.old ≡ Some (numbers.new, nodes.new)) }
+    ensures { OnOk result (made_type rule place count numbers.old nodes.old ≡ Some (numbers.new, nodes.new)) }
 {
     match rule {
-        Rule::TypeAny => finish(Node::TypeAny { place }, numbers, nodes),
         Rule::TypeBracket => {
             let inner = numbers.pop()?;
             finish(Node::TypeBracket { place, inner }, numbers, nodes)
+        }
+        Rule::TypeTuple => {
+            let parts = numbers.take(count)?;
+            finish(Node::TypeTuple { place, parts }, numbers, nodes)
         }
         Rule::TypeArrow => {
             let result = numbers.pop()?;
