@@ -14,7 +14,7 @@ use std::alloc::{AllocError, Global};
 /// of memory, and so are reductions that take more than there is or name a token that isn't there.
 #[tactic(auto, unfolding(crate::specs::Reduced::built))]
 pub fn build(alloc: Global, tokens: &Tokens, reductions: &[Reduction]) -> Result<Prog, AllocError>
-    ensures { IfOk result (λ prog. program tokens.now reductions.now ≡ Some prog) }
+    ensures { IfOk result (λ prog. program tokens.now.lexemes reductions.now ≡ Some prog) }
 {
     let mut building = Building::new(alloc);
     for reduction in reductions {

@@ -314,7 +314,7 @@ fn reduce_at(
 
 // The token of a number. One that isn't there is refused as memory is.
 fn token_at(tokens: &Tokens, number: usize) -> Result<TokenView<'_>, AllocError>
-    ensures { IfOk result (λ token. slice_get tokens.now number ≡ Some (seen token)) }
+    ensures { IfOk result (λ token. slice_get tokens.now.lexemes number ≡ Some (seen token)) }
 {
     if number < tokens.len() {
         Ok(tokens.view(number))
@@ -331,7 +331,7 @@ pub fn reduce(
     reduction: Reduction,
     building: &mut Building,
 ) -> Result<(), AllocError>
-    ensures { OnOk result (reduced tokens.now reduction building.old ≡ Some building.new) }
+    ensures { OnOk result (reduced tokens.now.lexemes reduction building.old ≡ Some building.new) }
 {
     let token = token_at(tokens, reduction.token)?;
     reduce_at(alloc, reduction.rule, &token, reduction.count, building)

@@ -21,7 +21,7 @@ begin_value form = by_two (changes.Become (with_value form)) (changes.Open forms
 
 -- an `effect` where a clause begins: `match` and `try` take such clauses
 unfoldable pub complete_effect : Form → Option Move
-complete_effect forms.FunctionClauses = begin_value form
+complete_effect forms.FunctionClauses = begin_value forms.FunctionClauses
 complete_effect _ = goes waits.Clause
 
 -- an `exception` where a clause begins: `match` takes such clauses

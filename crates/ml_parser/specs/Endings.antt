@@ -20,7 +20,7 @@ use Rattle.ml_parser.specs.Level.{level_of}
 
 -- an argument behind an expression, in this form
 unfoldable pub apply : Form → Option Move
-apply forms.Apply = by (changes.Count form) waits.Expression
+apply forms.Apply = by (changes.Count forms.Apply) waits.Expression
 apply (forms.HandleFirst kind) = by (changes.Become (forms.HandleSecond kind)) waits.Expression
 apply (forms.HandleSecond _) = goes waits.After
 apply _ = by (changes.Open forms.Apply 1) waits.Expression
@@ -46,7 +46,7 @@ operate operator form _ = open_operation (operator_level operator) (forms.Operat
 
 -- a further part of a tuple, or a tuple
 unfoldable pub pair_with : Form → Option Move
-pair_with forms.Tuple = by (changes.Count form) waits.Expression
+pair_with forms.Tuple = by (changes.Count forms.Tuple) waits.Expression
 pair_with form = open_operation 13 forms.Tuple form
 
 -- a comma behind an expression
@@ -71,8 +71,8 @@ next_handler_field missing = if (missing.retc || missing.exnc) || missing.effc t
 -- a semicolon behind an expression
 unfoldable pub follow : Form → Option Move
 follow forms.Sequence = goes waits.Sequel
-follow forms.List = by (changes.Count form) waits.Expression
-follow forms.Array = by (changes.Count form) waits.Expression
+follow forms.List = by (changes.Count forms.List) waits.Expression
+follow forms.Array = by (changes.Count forms.Array) waits.Expression
 follow forms.Record = by (changes.Leaf rules.NamedPart) waits.Field
 follow (forms.HandlerFields missing) = next_handler_field missing
 follow form = open_sequence form

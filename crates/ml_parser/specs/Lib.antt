@@ -11,3 +11,9 @@ pub mod Handlers
 pub mod Items
 pub mod Completing
 pub mod Taking
+pub mod Frames
+pub mod Changed
+pub mod Settled
+pub mod Signs
+pub mod Reading
+pub mod Parsed

@@ -88,8 +88,8 @@ join_parameter role form = if begins_pattern role then (by (changes.Count form) 
 
 -- a further parameter; any other token is left
 unfoldable pub join_pattern : Role → Form → Option Move
-join_pattern role forms.FunParameters = join_parameter role form
-join_pattern role forms.BindingParameters = join_parameter role form
+join_pattern role forms.FunParameters = join_parameter role forms.FunParameters
+join_pattern role forms.BindingParameters = join_parameter role forms.BindingParameters
 join_pattern role _ = goes waits.After
 
 -- a form of this level and its second part, where such a form may stand
@@ -98,7 +98,7 @@ open_pattern level form outer = if nat_le level (level_of outer) then (by (chang
 
 -- a comma behind a pattern
 unfoldable pub pair_pattern : Form → Option Move
-pair_pattern forms.PatternTuple = by (changes.Count form) waits.Pattern
+pair_pattern forms.PatternTuple = by (changes.Count forms.PatternTuple) waits.Pattern
 pair_pattern forms.EffectClause = goes waits.Continuation
 pair_pattern form = open_pattern 3 forms.PatternTuple form
 
@@ -114,7 +114,7 @@ close_pattern _ = None
 
 -- a semicolon behind a pattern
 unfoldable pub next_pattern : Form → Option Move
-next_pattern forms.PatternList = by (changes.Count form) waits.Pattern
+next_pattern forms.PatternList = by (changes.Count forms.PatternList) waits.Pattern
 next_pattern forms.PatternRecord = by (changes.Leaf rules.NamedPart) waits.PatternFieldOrRest
 next_pattern _ = None
 

@@ -24,12 +24,12 @@ use Rattle.ml_parser.specs.Items.{begin_item}
 
 -- a token behind a whole part that is no type, pattern or expression
 unfoldable pub after_other : Role → Form → Option Move
-after_other role forms.MatchClauses = next_clause role form
-after_other role forms.MatchValues = next_clause role form
-after_other role forms.TryClauses = next_clause role form
-after_other role forms.FunctionClauses = next_clause role form
-after_other role (forms.Let _) = after_bindings role form
-after_other role (forms.LetRecursive _) = after_bindings role form
+after_other role forms.MatchClauses = next_clause role forms.MatchClauses
+after_other role forms.MatchValues = next_clause role forms.MatchValues
+after_other role forms.TryClauses = next_clause role forms.TryClauses
+after_other role forms.FunctionClauses = next_clause role forms.FunctionClauses
+after_other role (forms.Let own) = after_bindings role (forms.Let own)
+after_other role (forms.LetRecursive own) = after_bindings role (forms.LetRecursive own)
 after_other role form = after_definition role form
 
 -- a token behind a whole part of this sort, in this form

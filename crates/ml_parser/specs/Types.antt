@@ -66,7 +66,7 @@ join_type _ = goes waits.After
 
 -- a `*` behind a type
 unfoldable pub multiply_type : Form → Types → Option Move
-multiply_type (forms.TypeTuple _) types = by (changes.Count form) waits.Type
+multiply_type (forms.TypeTuple own) types = by (changes.Count (forms.TypeTuple own)) waits.Type
 multiply_type form types = if nat_le 2 (level_of form) then (by (changes.Open (forms.TypeTuple types) 2) waits.Type) else None
 
 -- a `->` behind a type
@@ -87,7 +87,7 @@ close_type _ = None
 -- a comma behind a type
 unfoldable pub next_type : Form → Option Move
 next_type (forms.TypeParenthesis types) = by (changes.Count (forms.TypeArguments types)) waits.Type
-next_type (forms.TypeArguments _) = by (changes.Count form) waits.Type
+next_type (forms.TypeArguments own) = by (changes.Count (forms.TypeArguments own)) waits.Type
 next_type _ = None
 
 -- a `=` behind a type

@@ -5,4 +5,4 @@ use Rattle.ml_builder.proofs.reduce.token_at.Goals as goal
 
 pub returns-then-number-len : goal.returns-then-number-len
 returns-then-number-len c =
-    first_of_rest c.args.tokens.now (drop (c.args.number + 1) c.args.tokens.now) c.args.number (seen c.view.result) c.view.ensures
+    first_of_rest c.args.tokens.now.lexemes (drop (c.args.number + 1) c.args.tokens.now.lexemes) c.args.number (seen c.view.result) c.view.ensures
