@@ -17,11 +17,14 @@ made_of_last (Some r) = made_by r.rule r.count
 abbrev pub last_made : List Reduction → Last
 last_made rs = made_of_last (slice_get rs (length rs - 1))
 
+-- where a form ends, what follows from its rule
+abbrev pub unless_made : State → Option Rule → (Rule → State) → State
+unless_made s None again = s
+unless_made s (Some r) again = again r
+
 -- the forms that end before a token end, from the innermost on
 unfoldable pub settled : Role → List Frame → List Reduction → State
 settled role [] rs = state [] rs
-settled role (f ∷ fs) rs = ended (made_before role f.form (last_made rs)) (λ r. settled role fs (rs ++ reduction r f.token f.parts ∷ []))
-  where
-    ended : Option Rule → (Rule → State) → State
-    ended None again = state (f ∷ fs) rs
-    ended (Some r) again = again r
+settled role (f ∷ fs) rs =
+    unless_made (state (f ∷ fs) rs) (made_before role f.form (last_made rs))
+      (λ r. settled role fs (rs ++ reduction r f.token f.parts ∷ []))

@@ -23,6 +23,7 @@ pub fn last_made(reductions: &Sequence<Reduction>) -> Last
 }
 
 /// Ends the forms that end before a token.
+#[tactic(auto, using(crate::proofs::EndsForms::settled_once, crate::proofs::EndsForms::settled_none, crate::proofs::EndsForms::fewer))]
 pub fn settle(
     role: Role,
     frames: &mut Frames,

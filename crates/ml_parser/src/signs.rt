@@ -80,7 +80,7 @@ fn subject_sign(role: Role, text: &[u8], parameter: &[u8]) -> Sign
 }
 
 // The number of the token that is the name of this parameter of `effc`.
-#[tactic(auto, unfolding(crate::specs::Signs::parameter_of))]
+#[tactic(auto, unfolding(crate::specs::Signs::parameter_of, crate::specs::Signs::parameter_in))]
 fn parameter_of(frame: Frame) -> usize
     ensures { result ≡ parameter_of frame }
 {

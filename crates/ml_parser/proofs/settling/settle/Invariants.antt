@@ -3,8 +3,8 @@ use Rattle.ml_parser.specs.Settled.{settled}
 use Rattle.ml_parser.proofs.settling.settle.Given as goal
 
 -- what ends from here on is what ends in all
-abbrev pub invariant-loop : goal.invariant-loop
-invariant-loop l = settled l.role l.frames l.reductions ≡ settled l.role l.fn.frames l.fn.reductions
+abbrev pub invariant-loop-rule : goal.invariant-loop-rule
+invariant-loop-rule l = settled l.role l.frames l.reductions ≡ settled l.role l.fn.frames l.fn.reductions
 
-abbrev pub decreases-loop : goal.decreases-loop
-decreases-loop l = length l.frames
+abbrev pub decreases-loop-rule : goal.decreases-loop-rule
+decreases-loop-rule l = length l.frames
