@@ -45,6 +45,7 @@ changed_top change t (f ∷ fs) rs = changed_frame change t f fs rs
 unfoldable pub changed : Change → ℕ → List Frame → List Reduction → Option State
 changed changes.Nothing t fs rs = Some (state fs rs)
 changed (changes.Leaf rule) t fs rs = Some (state fs (rs ++ reduction rule t 0 ∷ []))
+changed (changes.LeafBefore rule) t fs rs = Some (state fs (rs ++ reduction rule (t - 1) 0 ∷ []))
 changed (changes.Name rule) t fs rs = Some (state fs ((rs ++ reduction rules.Word t 0 ∷ []) ++ reduction rule t 1 ∷ []))
 changed (changes.Open form parts) t fs rs = Some (state (frame form t parts ∷ fs) rs)
 changed (changes.OpenBefore form) t fs rs = Some (state (frame form (t - 1) 1 ∷ fs) rs)

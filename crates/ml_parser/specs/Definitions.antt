@@ -72,7 +72,7 @@ name_constructor _ = None
 -- a token behind the name of a constructor or of an exception: `of` is left, and any other one shows that there is no argument
 unfoldable pub complete_constructor_name : Role → Option Move
 complete_constructor_name roles.Of = goes waits.ConstructorEnd
-complete_constructor_name _ = by (changes.Leaf rules.PlainConstructor) waits.After
+complete_constructor_name _ = by (changes.LeafBefore rules.PlainConstructor) waits.After
 
 -- an `of` behind that name
 unfoldable pub open_argument : Role → Option Move

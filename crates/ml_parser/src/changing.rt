@@ -89,6 +89,7 @@ pub fn change(
     match change {
         Change::Nothing => Ok(()),
         Change::Leaf(rule) => reduce(rule, token, 0, reductions),
+        Change::LeafBefore(rule) => reduce(rule, token.saturating_sub(1), 0, reductions),
         Change::Name(rule) => {
             reduce(Rule::Word, token, 0, reductions)?;
             reduce(rule, token, 1, reductions)

@@ -157,7 +157,7 @@ pub fn complete_constructor_name(role: Role) -> Option<Move>
 {
     match role {
         Role::Of => goes(Awaits::ConstructorEnd),
-        _ => by(Change::Leaf(Rule::PlainConstructor), Awaits::After),
+        _ => by(Change::LeafBefore(Rule::PlainConstructor), Awaits::After),
     }
 }
 

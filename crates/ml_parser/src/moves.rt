@@ -13,6 +13,8 @@ pub enum Change {
     Nothing,
     /// A reduction at the token, of no parts.
     Leaf(Rule),
+    /// The same at the token before.
+    LeafBefore(Rule),
     /// The token is a word, and a reduction takes it alone.
     Name(Rule),
     /// A form opens at the token; so many of its parts have begun.
