@@ -1,7 +1,8 @@
--- The parts of a handler's `effc`.
+-- Calls with a handler, and the parts of a handler's `effc`.
 use Rattle.std.specs.Prelude.{ℕ, List, [], ◌∷◌, ◌++◌, drop, length, Option, Some, None}
 use Rattle.fx_base.specs.declared.refusal.Place.{Place}
 use Rattle.ml_syntax.specs.declared.node.Name.{Name}
+use Rattle.ml_syntax.specs.declared.node.LongName.{LongName}
 use Rattle.ml_syntax.specs.declared.node.EffectRule.{EffectRule}
 use Rattle.ml_syntax.specs.declared.node.Node.{Node}
 use Rattle.ml_syntax.specs.declared.node.Node.TheVariants as node
@@ -9,6 +10,11 @@ use Rattle.ml_builder.specs.declared.reduction.Rule.{Rule}
 use Rattle.ml_builder.specs.declared.reduction.Rule.TheVariants as rule
 use Rattle.ml_builder.specs.Stack.{top}
 use Rattle.ml_builder.specs.Finished.{finished_of}
+
+-- a function, two arguments and a handler
+unfoldable pub made_handle : List LongName → List ℕ → List Node → Option (List LongName × List ℕ × List Node)
+made_handle (x ∷ xs) (h ∷ e ∷ f ∷ ks) ns = finished_of (node.Handle x f e h) xs ks ns
+made_handle _ _ _ = None
 
 unfoldable pub made_effect_rule : List ℕ → List EffectRule → Option (List ℕ × List EffectRule)
 made_effect_rule (a ∷ q ∷ ks) rs = Some (ks, record { pattern = q; answer = a } ∷ rs)

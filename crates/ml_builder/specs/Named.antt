@@ -28,14 +28,17 @@ unfoldable pub made_with_word : Rule → Place → List Name → List ℕ → Li
 made_with_word rule.PatternAlias p (x ∷ ws) (q ∷ ks) ns = finished_of (node.PatternAlias p q x) ws ks ns
 made_with_word rule.Field p (x ∷ ws) (e ∷ ks) ns = finished_of (node.Field e x) ws ks ns
 made_with_word rule.SetField p (x ∷ ws) (v ∷ e ∷ ks) ns = finished_of (node.SetField p e x v) ws ks ns
-made_with_word rule.ForUpward p (x ∷ ws) (b ∷ l ∷ f ∷ ks) ns = finished_of (node.For p x f false l b) ws ks ns
-made_with_word rule.ForDownward p (x ∷ ws) (b ∷ l ∷ f ∷ ks) ns = finished_of (node.For p x f true l b) ws ks ns
 made_with_word _ _ _ _ _ = None
+
+-- a `for`
+unfoldable pub made_for : Rule → Place → List Name → List ℕ → List Node → Option (List Name × List ℕ × List Node)
+made_for rule.ForUpward p (x ∷ ws) (b ∷ l ∷ f ∷ ks) ns = finished_of (node.For p x f false l b) ws ks ns
+made_for rule.ForDownward p (x ∷ ws) (b ∷ l ∷ f ∷ ks) ns = finished_of (node.For p x f true l b) ws ks ns
+made_for _ _ _ _ _ = None
 
 -- a form with a long name
 unfoldable pub made_with_long_name : Rule → ℕ → List LongName → List ℕ → List Node → Option (List LongName × List ℕ × List Node)
 made_with_long_name rule.TypeApply c (x ∷ xs) ks ns = finished_of (node.TypeApply (top c ks) x) xs (drop c ks) ns
 made_with_long_name rule.PatternConstruct c (x ∷ xs) (q ∷ ks) ns = finished_of (node.PatternConstruct x q) xs ks ns
 made_with_long_name rule.Construct c (x ∷ xs) (e ∷ ks) ns = finished_of (node.Construct x e) xs ks ns
-made_with_long_name rule.Handle c (x ∷ xs) (h ∷ e ∷ f ∷ ks) ns = finished_of (node.Handle x f e h) xs ks ns
 made_with_long_name _ _ _ _ _ = None

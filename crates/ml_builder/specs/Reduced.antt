@@ -10,6 +10,8 @@ use Rattle.ml_builder.specs.declared.sort.Sort.{Sort}
 use Rattle.ml_builder.specs.declared.sort.Sort.TheVariants as sorts
 use Rattle.ml_builder.specs.declared.sort.FormSort.{FormSort}
 use Rattle.ml_builder.specs.declared.sort.FormSort.TheVariants as form
+use Rattle.ml_builder.specs.declared.sort.NamedSort.{NamedSort}
+use Rattle.ml_builder.specs.declared.sort.NamedSort.TheVariants as named
 use Rattle.ml_builder.specs.declared.sort.CompoundSort.{CompoundSort}
 use Rattle.ml_builder.specs.declared.sort.CompoundSort.TheVariants as compound
 use Rattle.ml_builder.specs.declared.sort.HandlerSort.{HandlerSort}
@@ -22,15 +24,15 @@ use Rattle.ml_builder.specs.declared.sort.ItemSort.{ItemSort}
 use Rattle.ml_builder.specs.declared.sort.ItemSort.TheVariants as item
 use Rattle.ml_builder.specs.Sort.{sort}
 use Rattle.ml_builder.specs.Bindings.{made_binding, made_let}
-use Rattle.ml_builder.specs.Clauses.{made_clause, made_match}
+use Rattle.ml_builder.specs.Clauses.{made_clause, made_exception_clause, made_match}
 use Rattle.ml_builder.specs.Definitions.{made_constructor, made_effect, made_field, made_head, made_record_type, made_variant_type}
-use Rattle.ml_builder.specs.Expressions.{made_enclosed, made_unenclosed}
-use Rattle.ml_builder.specs.Handlers.{made_effect_function, made_effect_rule, made_function_cases, made_match_cases}
+use Rattle.ml_builder.specs.Expressions.{made_bracket, made_control, made_fun, made_several}
+use Rattle.ml_builder.specs.Handlers.{made_effect_function, made_effect_rule, made_function_cases, made_handle, made_match_cases}
 use Rattle.ml_builder.specs.Items.{made_effects_item, made_exception_item, made_expression_item, made_let_item, made_open_item, made_types_item}
 use Rattle.ml_builder.specs.Leaves.{made_leaf}
-use Rattle.ml_builder.specs.Named.{made_name, made_with_long_name, made_with_word}
+use Rattle.ml_builder.specs.Named.{made_for, made_name, made_with_long_name, made_with_word}
 use Rattle.ml_builder.specs.Names.{made_word, pushed_long_name}
-use Rattle.ml_builder.specs.Operators.{made_operation}
+use Rattle.ml_builder.specs.Operators.{made_element, made_operation}
 use Rattle.ml_builder.specs.Patterns.{made_pattern}
 use Rattle.ml_builder.specs.Records.{made_part, made_record}
 use Rattle.ml_builder.specs.Types.{made_type}
@@ -40,18 +42,26 @@ unfoldable pub reduced_form : FormSort → Rule → Lexeme → ℕ → List ℕ 
 reduced_form form.Leaf r t c ks ns = made_leaf r t ks ns
 reduced_form form.Type r t c ks ns = made_type r t.place c ks ns
 reduced_form form.Pattern r t c ks ns = made_pattern r t.place c ks ns
-reduced_form form.Enclosed r t c ks ns = made_enclosed r t.place c ks ns
-reduced_form form.Unenclosed r t c ks ns = made_unenclosed r t.place c ks ns
+reduced_form form.Bracket r t c ks ns = made_bracket r t.place ks ns
+reduced_form form.Several r t c ks ns = made_several r t.place c ks ns
+reduced_form form.Control r t c ks ns = made_control r t.place ks ns
+reduced_form form.Fun r t c ks ns = made_fun t.place c ks ns
 reduced_form form.Operation r t c ks ns = made_operation r t.place c ks ns
+reduced_form form.Element r t c ks ns = made_element r t.place ks ns
 
--- forms that have more than numbers as their parts
-unfoldable pub reduced_compound : CompoundSort → Rule → Lexeme → ℕ → Building → Option Building
-reduced_compound compound.Name r t c b =
+-- forms that have a name
+unfoldable pub reduced_named : NamedSort → Rule → Lexeme → ℕ → Building → Option Building
+reduced_named named.Name r t c b =
     option_map (λ p. record b { words = p.0; numbers = p.1; nodes = p.2 }) (made_name r c b.words b.numbers b.nodes)
-reduced_compound compound.WithWord r t c b =
+reduced_named named.WithWord r t c b =
     option_map (λ p. record b { words = p.0; numbers = p.1; nodes = p.2 }) (made_with_word r t.place b.words b.numbers b.nodes)
-reduced_compound compound.WithLongName r t c b =
+reduced_named named.For r t c b =
+    option_map (λ p. record b { words = p.0; numbers = p.1; nodes = p.2 }) (made_for r t.place b.words b.numbers b.nodes)
+reduced_named named.WithLongName r t c b =
     option_map (λ p. record b { long_names = p.0; numbers = p.1; nodes = p.2 }) (made_with_long_name r c b.long_names b.numbers b.nodes)
+
+-- forms whose parts are no forms
+unfoldable pub reduced_compound : CompoundSort → Rule → Lexeme → ℕ → Building → Option Building
 reduced_compound compound.Record r t c b =
     option_map (λ p. record b { parts = p.0; numbers = p.1; nodes = p.2 }) (made_record r t.place c b.parts b.numbers b.nodes)
 reduced_compound compound.Match r t c b =
@@ -59,8 +69,10 @@ reduced_compound compound.Match r t c b =
 reduced_compound compound.Let r t c b =
     option_map (λ p. record b { bindings = p.0; numbers = p.1; nodes = p.2 }) (made_let r t.place c b.bindings b.numbers b.nodes)
 
--- the parts of a handler
+-- forms with a handler, and of its parts
 unfoldable pub reduced_handler : HandlerSort → Rule → Lexeme → ℕ → Building → Option Building
+reduced_handler handler.Call r t c b =
+    option_map (λ p. record b { long_names = p.0; numbers = p.1; nodes = p.2 }) (made_handle b.long_names b.numbers b.nodes)
 reduced_handler handler.Rule r t c b =
     option_map (λ p. record b { numbers = p.0; rules = p.1 }) (made_effect_rule b.numbers b.rules)
 reduced_handler handler.Function r t c b =
@@ -79,6 +91,8 @@ reduced_part part.NamedPart r t c b =
     option_map (λ p. record b { words = p.0; numbers = p.1; parts = p.2 }) (made_part b.words b.numbers b.parts)
 reduced_part part.Clause r t c b =
     option_map (λ p. record b { numbers = p.0; clauses = p.1 }) (made_clause r t.place b.numbers b.clauses)
+reduced_part part.ExceptionClause r t c b =
+    option_map (λ p. record b { numbers = p.0; clauses = p.1 }) (made_exception_clause r t.place b.numbers b.clauses)
 reduced_part part.Binding r t c b =
     option_map (λ p. record b { words = p.0; numbers = p.1; bindings = p.2 }) (made_binding r c b.words b.numbers b.bindings)
 
@@ -115,6 +129,7 @@ reduced_item item.Open r t c b =
 -- one reduction, at its token
 unfoldable pub reduced_at : Sort → Rule → Lexeme → ℕ → Building → Option Building
 reduced_at (sorts.Form s) r t c b = option_map (λ p. record b { numbers = p.0; nodes = p.1 }) (reduced_form s r t c b.numbers b.nodes)
+reduced_at (sorts.Named s) r t c b = reduced_named s r t c b
 reduced_at (sorts.Compound s) r t c b = reduced_compound s r t c b
 reduced_at (sorts.Handler s) r t c b = reduced_handler s r t c b
 reduced_at (sorts.Part s) r t c b = reduced_part s r t c b

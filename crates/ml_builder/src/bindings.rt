@@ -40,8 +40,7 @@ pub fn build_binding(
         }
         Rule::AnnotatedBinding => {
             let body = numbers.pop()?;
-            let annotation = numbers.pop()?;
-            let annotation = Some(annotation);
+            let annotation = Some(numbers.pop()?);
             let parameters = numbers.take(count)?;
             let name = words.pop()?;
             bindings.push(Binding::Named {

@@ -1,7 +1,7 @@
 //! Clauses, and the forms that have them as their parts.
 
 ghost use Rattle.std.specs.Prelude.{◌≡◌, Some, OnOk};
-ghost use Rattle.ml_builder.specs.Clauses.{made_clause, made_match};
+ghost use Rattle.ml_builder.specs.Clauses.{made_clause, made_exception_clause, made_match};
 
 use crate::finish::finish;
 use crate::reduction::Rule;
@@ -32,32 +32,9 @@ pub fn build_clause(
         }
         Rule::GuardedClause => {
             let body = numbers.pop()?;
-            let guard = numbers.pop()?;
+            let guard = Some(numbers.pop()?);
             let pattern = numbers.pop()?;
-            let guard = Some(guard);
             clauses.push(Clause::Value {
-                pattern,
-                guard,
-                body,
-            })
-        }
-        Rule::ExceptionClause => {
-            let body = numbers.pop()?;
-            let pattern = numbers.pop()?;
-            clauses.push(Clause::Exception {
-                place,
-                pattern,
-                guard: None,
-                body,
-            })
-        }
-        Rule::GuardedExceptionClause => {
-            let body = numbers.pop()?;
-            let guard = numbers.pop()?;
-            let pattern = numbers.pop()?;
-            let guard = Some(guard);
-            clauses.push(Clause::Exception {
-                place,
                 pattern,
                 guard,
                 body,
@@ -71,6 +48,42 @@ pub fn build_clause(
                 place,
                 pattern,
                 continuation,
+                body,
+            })
+        }
+        _ => Err(AllocError),
+    }
+}
+
+/// An exception clause.
+#[tactic(auto, unfolding(crate::specs::Clauses::made_exception_clause))]
+pub fn build_exception_clause(
+    rule: Rule,
+    place: Place,
+    numbers: &mut Stack<u32>,
+    clauses: &mut Stack<Clause>,
+) -> Result<(), AllocError>
+    ensures { OnOk result (made_exception_clause rule place numbers.old clauses.old ≡ Some (numbers.new, clauses.new)) }
+{
+    match rule {
+        Rule::ExceptionClause => {
+            let body = numbers.pop()?;
+            let pattern = numbers.pop()?;
+            clauses.push(Clause::Exception {
+                place,
+                pattern,
+                guard: None,
+                body,
+            })
+        }
+        Rule::GuardedExceptionClause => {
+            let body = numbers.pop()?;
+            let guard = Some(numbers.pop()?);
+            let pattern = numbers.pop()?;
+            clauses.push(Clause::Exception {
+                place,
+                pattern,
+                guard,
                 body,
             })
         }

@@ -1,7 +1,7 @@
 //! The forms of expressions that have expressions and types as their parts.
 
 ghost use Rattle.std.specs.Prelude.{◌≡◌, Some, OnOk};
-ghost use Rattle.ml_builder.specs.Expressions.{made_enclosed, made_unenclosed};
+ghost use Rattle.ml_builder.specs.Expressions.{made_bracket, made_control, made_fun, made_several};
 
 use crate::finish::finish;
 use crate::reduction::Rule;
@@ -10,16 +10,15 @@ use fx_base::Place;
 use ml_syntax::{Node, Nodes};
 use std::alloc::AllocError;
 
-/// Brackets, lists, arrays and loops.
-#[tactic(auto, unfolding(crate::specs::Expressions::made_enclosed))]
-pub fn build_enclosed(
+/// A bracket.
+#[tactic(auto, unfolding(crate::specs::Expressions::made_bracket))]
+pub fn build_bracket(
     rule: Rule,
     place: Place,
-    count: usize,
     numbers: &mut Stack<u32>,
     nodes: &mut Nodes,
 ) -> Result<(), AllocError>
-    ensures { OnOk result (made_enclosed rule place count numbers.old nodes.old ≡ Some (numbers.new, nodes.new)) }
+    ensures { OnOk result (made_bracket rule place numbers.old nodes.old ≡ Some (numbers.new, nodes.new)) }
 {
     match rule {
         Rule::Bracket => {
@@ -42,6 +41,22 @@ pub fn build_enclosed(
             };
             finish(node, numbers, nodes)
         }
+        _ => Err(AllocError),
+    }
+}
+
+/// So many expressions.
+#[tactic(auto, unfolding(crate::specs::Expressions::made_several))]
+pub fn build_several(
+    rule: Rule,
+    place: Place,
+    count: usize,
+    numbers: &mut Stack<u32>,
+    nodes: &mut Nodes,
+) -> Result<(), AllocError>
+    ensures { OnOk result (made_several rule place count numbers.old nodes.old ≡ Some (numbers.new, nodes.new)) }
+{
+    match rule {
         Rule::List => {
             let parts = numbers.take(count)?;
             let node = Node::List { place, parts };
@@ -50,56 +65,6 @@ pub fn build_enclosed(
         Rule::Array => {
             let parts = numbers.take(count)?;
             let node = Node::Array { place, parts };
-            finish(node, numbers, nodes)
-        }
-        Rule::While => {
-            let body = numbers.pop()?;
-            let condition = numbers.pop()?;
-            let node = Node::While {
-                place,
-                condition,
-                body,
-            };
-            finish(node, numbers, nodes)
-        }
-        _ => Err(AllocError),
-    }
-}
-
-/// `if`, tuples, sequences and functions.
-#[tactic(auto, unfolding(crate::specs::Expressions::made_unenclosed))]
-pub fn build_unenclosed(
-    rule: Rule,
-    place: Place,
-    count: usize,
-    numbers: &mut Stack<u32>,
-    nodes: &mut Nodes,
-) -> Result<(), AllocError>
-    ensures { OnOk result (made_unenclosed rule place count numbers.old nodes.old ≡ Some (numbers.new, nodes.new)) }
-{
-    match rule {
-        Rule::If => {
-            let consequence = numbers.pop()?;
-            let condition = numbers.pop()?;
-            let node = Node::If {
-                place,
-                condition,
-                consequence,
-                alternative: None,
-            };
-            finish(node, numbers, nodes)
-        }
-        Rule::IfElse => {
-            let alternative = numbers.pop()?;
-            let consequence = numbers.pop()?;
-            let condition = numbers.pop()?;
-            let alternative = Some(alternative);
-            let node = Node::If {
-                place,
-                condition,
-                consequence,
-                alternative,
-            };
             finish(node, numbers, nodes)
         }
         Rule::Tuple => {
@@ -112,16 +77,74 @@ pub fn build_unenclosed(
             let node = Node::Sequence { place, parts };
             finish(node, numbers, nodes)
         }
-        Rule::Fun => {
+        _ => Err(AllocError),
+    }
+}
+
+/// A `while` or an `if`.
+#[tactic(auto, unfolding(crate::specs::Expressions::made_control))]
+pub fn build_control(
+    rule: Rule,
+    place: Place,
+    numbers: &mut Stack<u32>,
+    nodes: &mut Nodes,
+) -> Result<(), AllocError>
+    ensures { OnOk result (made_control rule place numbers.old nodes.old ≡ Some (numbers.new, nodes.new)) }
+{
+    match rule {
+        Rule::While => {
             let body = numbers.pop()?;
-            let parameters = numbers.take(count)?;
-            let node = Node::Fun {
+            let condition = numbers.pop()?;
+            let node = Node::While {
                 place,
-                parameters,
+                condition,
                 body,
+            };
+            finish(node, numbers, nodes)
+        }
+        Rule::If => {
+            let consequence = numbers.pop()?;
+            let condition = numbers.pop()?;
+            let node = Node::If {
+                place,
+                condition,
+                consequence,
+                alternative: None,
+            };
+            finish(node, numbers, nodes)
+        }
+        Rule::IfElse => {
+            let alternative = Some(numbers.pop()?);
+            let consequence = numbers.pop()?;
+            let condition = numbers.pop()?;
+            let node = Node::If {
+                place,
+                condition,
+                consequence,
+                alternative,
             };
             finish(node, numbers, nodes)
         }
         _ => Err(AllocError),
     }
+}
+
+/// A `fun` of so many patterns and a body.
+#[tactic(auto, unfolding(crate::specs::Expressions::made_fun))]
+pub fn build_fun(
+    place: Place,
+    count: usize,
+    numbers: &mut Stack<u32>,
+    nodes: &mut Nodes,
+) -> Result<(), AllocError>
+    ensures { OnOk result (made_fun place count numbers.old nodes.old ≡ Some (numbers.new, nodes.new)) }
+{
+    let body = numbers.pop()?;
+    let parameters = numbers.take(count)?;
+    let node = Node::Fun {
+        place,
+        parameters,
+        body,
+    };
+    finish(node, numbers, nodes)
 }

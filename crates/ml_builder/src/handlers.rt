@@ -1,14 +1,36 @@
-//! The parts of a handler's `effc`.
+//! Calls with a handler, and the parts of a handler's `effc`.
 
 ghost use Rattle.std.specs.Prelude.{◌≡◌, Some, OnOk};
-ghost use Rattle.ml_builder.specs.Handlers.{made_effect_function, made_effect_rule, made_function_cases, made_match_cases};
+ghost use Rattle.ml_builder.specs.Handlers.{made_effect_function, made_effect_rule, made_function_cases, made_handle, made_match_cases};
 
 use crate::finish::finish;
 use crate::reduction::Rule;
 use crate::stack::Stack;
 use fx_base::Place;
-use ml_syntax::{EffectRule, Name, Node, Nodes};
+use ml_syntax::{EffectRule, LongName, Name, Node, Nodes};
 use std::alloc::AllocError;
+
+/// A function, two arguments and a handler.
+#[tactic(auto, unfolding(crate::specs::Handlers::made_handle))]
+pub fn build_handle(
+    long_names: &mut Stack<LongName>,
+    numbers: &mut Stack<u32>,
+    nodes: &mut Nodes,
+) -> Result<(), AllocError>
+    ensures { OnOk result (made_handle long_names.old numbers.old nodes.old ≡ Some (long_names.new, numbers.new, nodes.new)) }
+{
+    let handler = numbers.pop()?;
+    let second = numbers.pop()?;
+    let first = numbers.pop()?;
+    let function = long_names.pop()?;
+    let node = Node::Handle {
+        function,
+        first,
+        second,
+        handler,
+    };
+    finish(node, numbers, nodes)
+}
 
 /// A rule of `effc`.
 #[tactic(auto, unfolding(crate::specs::Handlers::made_effect_rule))]

@@ -2,7 +2,7 @@
 
 ghost use Rattle.std.specs.Prelude.{◌≡◌, Some, OnOk};
 ghost use Rattle.std.specs.Prelude.{IfOk};
-ghost use Rattle.ml_builder.specs.Named.{made_name, made_with_long_name, made_with_word, name_node};
+ghost use Rattle.ml_builder.specs.Named.{made_for, made_name, made_with_long_name, made_with_word, name_node};
 
 use crate::finish::finish;
 use crate::names::take_long_name;
@@ -82,6 +82,22 @@ pub fn build_with_word(
             };
             finish(node, numbers, nodes)
         }
+        _ => Err(AllocError),
+    }
+}
+
+/// A `for`.
+#[tactic(auto, unfolding(crate::specs::Named::made_for))]
+pub fn build_for(
+    rule: Rule,
+    place: Place,
+    words: &mut Stack<Name>,
+    numbers: &mut Stack<u32>,
+    nodes: &mut Nodes,
+) -> Result<(), AllocError>
+    ensures { OnOk result (made_for rule place words.old numbers.old nodes.old ≡ Some (words.new, numbers.new, nodes.new)) }
+{
+    match rule {
         Rule::ForUpward => {
             let body = numbers.pop()?;
             let last = numbers.pop()?;
@@ -152,19 +168,6 @@ pub fn build_with_long_name(
             let node = Node::Construct {
                 constructor,
                 argument,
-            };
-            finish(node, numbers, nodes)
-        }
-        Rule::Handle => {
-            let handler = numbers.pop()?;
-            let second = numbers.pop()?;
-            let first = numbers.pop()?;
-            let function = long_names.pop()?;
-            let node = Node::Handle {
-                function,
-                first,
-                second,
-                handler,
             };
             finish(node, numbers, nodes)
         }

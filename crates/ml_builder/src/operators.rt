@@ -1,7 +1,7 @@
 //! Operators, applications and elements.
 
 ghost use Rattle.std.specs.Prelude.{◌≡◌, Some, OnOk};
-ghost use Rattle.ml_builder.specs.Operators.{made_operation};
+ghost use Rattle.ml_builder.specs.Operators.{made_element, made_operation};
 
 use crate::finish::finish;
 use crate::reduction::Rule;
@@ -10,7 +10,7 @@ use fx_base::Place;
 use ml_syntax::{Node, Nodes};
 use std::alloc::AllocError;
 
-/// An operator, an application or an element.
+/// An operator or an application.
 #[tactic(auto, unfolding(crate::specs::Operators::made_operation))]
 pub fn build_operation(
     rule: Rule,
@@ -43,6 +43,30 @@ pub fn build_operation(
             };
             finish(node, numbers, nodes)
         }
+        Rule::Apply => {
+            let arguments = numbers.take(count)?;
+            let function = numbers.pop()?;
+            let node = Node::Apply {
+                function,
+                arguments,
+            };
+            finish(node, numbers, nodes)
+        }
+        _ => Err(AllocError),
+    }
+}
+
+/// An element of an array or of a string.
+#[tactic(auto, unfolding(crate::specs::Operators::made_element))]
+pub fn build_element(
+    rule: Rule,
+    place: Place,
+    numbers: &mut Stack<u32>,
+    nodes: &mut Nodes,
+) -> Result<(), AllocError>
+    ensures { OnOk result (made_element rule place numbers.old nodes.old ≡ Some (numbers.new, nodes.new)) }
+{
+    match rule {
         Rule::ArrayElement => {
             let index = numbers.pop()?;
             let array = numbers.pop()?;
@@ -72,15 +96,6 @@ pub fn build_operation(
                 array,
                 index,
                 value,
-            };
-            finish(node, numbers, nodes)
-        }
-        Rule::Apply => {
-            let arguments = numbers.take(count)?;
-            let function = numbers.pop()?;
-            let node = Node::Apply {
-                function,
-                arguments,
             };
             finish(node, numbers, nodes)
         }

@@ -3,31 +3,32 @@
 ghost use Rattle.std.specs.Prelude.{◌≡◌, Some, IfOk, OnOk, slice_get};
 ghost use Rattle.ml_lexer.specs.Seen.{seen};
 ghost use Rattle.ml_builder.specs.Sort.{sort};
-ghost use Rattle.ml_builder.specs.Reduced.{reduced, reduced_at, reduced_compound, reduced_definition, reduced_form, reduced_handler, reduced_item, reduced_part};
+ghost use Rattle.ml_builder.specs.Reduced.{reduced, reduced_at, reduced_compound, reduced_definition, reduced_form, reduced_handler, reduced_item, reduced_named, reduced_part};
 
 use crate::bindings::{build_binding, build_let};
 use crate::building::Building;
-use crate::clauses::{build_clause, build_match};
+use crate::clauses::{build_clause, build_exception_clause, build_match};
 use crate::definitions::{
     build_constructor, build_effect, build_field, build_head, build_record_type, build_variant_type,
 };
-use crate::expressions::{build_enclosed, build_unenclosed};
+use crate::expressions::{build_bracket, build_control, build_fun, build_several};
 use crate::handlers::{
-    build_effect_function, build_effect_rule, build_function_cases, build_match_cases,
+    build_effect_function, build_effect_rule, build_function_cases, build_handle, build_match_cases,
 };
 use crate::items::{
     build_effects_item, build_exception_item, build_expression_item, build_let_item,
     build_open_item, build_types_item,
 };
 use crate::leaves::build_leaf;
-use crate::named::{build_name, build_with_long_name, build_with_word};
+use crate::named::{build_for, build_name, build_with_long_name, build_with_word};
 use crate::names::{build_long_name, build_word};
-use crate::operators::build_operation;
+use crate::operators::{build_element, build_operation};
 use crate::patterns::build_pattern;
 use crate::records::{build_part, build_record};
 use crate::reduction::{Reduction, Rule};
 use crate::sort::{
-    CompoundSort, DefinitionSort, FormSort, HandlerSort, ItemSort, PartSort, Sort, sort_of,
+    CompoundSort, DefinitionSort, FormSort, HandlerSort, ItemSort, NamedSort, PartSort, Sort,
+    sort_of,
 };
 use crate::stack::Stack;
 use crate::types::build_type;
@@ -52,16 +53,63 @@ fn reduce_form(
         FormSort::Leaf => build_leaf(alloc, rule, token, numbers, nodes),
         FormSort::Type => build_type(rule, token.place, count, numbers, nodes),
         FormSort::Pattern => build_pattern(rule, token.place, count, numbers, nodes),
-        FormSort::Enclosed => build_enclosed(rule, token.place, count, numbers, nodes),
-        FormSort::Unenclosed => build_unenclosed(rule, token.place, count, numbers, nodes),
+        FormSort::Bracket => build_bracket(rule, token.place, numbers, nodes),
+        FormSort::Several => build_several(rule, token.place, count, numbers, nodes),
+        FormSort::Control => build_control(rule, token.place, numbers, nodes),
+        FormSort::Fun => build_fun(token.place, count, numbers, nodes),
         FormSort::Operation => build_operation(rule, token.place, count, numbers, nodes),
+        FormSort::Element => build_element(rule, token.place, numbers, nodes),
     }
 }
 
-// Forms that have more than numbers as their parts.
+// Forms that have a name.
+#[tactic(auto, unfolding(crate::specs::Reduced::reduced_named))]
+fn reduce_named(
+    alloc: Global,
+    sort: NamedSort,
+    rule: Rule,
+    token: &TokenView<'_>,
+    count: usize,
+    state: &mut Building,
+) -> Result<(), AllocError>
+    ensures { OnOk result (reduced_named sort rule (seen token.now) count state.old ≡ Some state.new) }
+{
+    match sort {
+        NamedSort::Name => build_name(
+            alloc,
+            rule,
+            count,
+            &mut state.words,
+            &mut state.numbers,
+            &mut state.nodes,
+        ),
+        NamedSort::WithWord => build_with_word(
+            rule,
+            token.place,
+            &mut state.words,
+            &mut state.numbers,
+            &mut state.nodes,
+        ),
+        NamedSort::For => build_for(
+            rule,
+            token.place,
+            &mut state.words,
+            &mut state.numbers,
+            &mut state.nodes,
+        ),
+        NamedSort::WithLongName => build_with_long_name(
+            rule,
+            count,
+            &mut state.long_names,
+            &mut state.numbers,
+            &mut state.nodes,
+        ),
+    }
+}
+
+// Forms whose parts are no forms.
 #[tactic(auto, unfolding(crate::specs::Reduced::reduced_compound))]
 fn reduce_compound(
-    alloc: Global,
     sort: CompoundSort,
     rule: Rule,
     token: &TokenView<'_>,
@@ -71,28 +119,6 @@ fn reduce_compound(
     ensures { OnOk result (reduced_compound sort rule (seen token.now) count state.old ≡ Some state.new) }
 {
     match sort {
-        CompoundSort::Name => build_name(
-            alloc,
-            rule,
-            count,
-            &mut state.words,
-            &mut state.numbers,
-            &mut state.nodes,
-        ),
-        CompoundSort::WithWord => build_with_word(
-            rule,
-            token.place,
-            &mut state.words,
-            &mut state.numbers,
-            &mut state.nodes,
-        ),
-        CompoundSort::WithLongName => build_with_long_name(
-            rule,
-            count,
-            &mut state.long_names,
-            &mut state.numbers,
-            &mut state.nodes,
-        ),
         CompoundSort::Record => build_record(
             rule,
             token.place,
@@ -120,7 +146,7 @@ fn reduce_compound(
     }
 }
 
-// The parts of a handler.
+// Forms with a handler, and of its parts.
 #[tactic(auto, unfolding(crate::specs::Reduced::reduced_handler))]
 fn reduce_handler(
     sort: HandlerSort,
@@ -132,6 +158,11 @@ fn reduce_handler(
     ensures { OnOk result (reduced_handler sort rule (seen token.now) count state.old ≡ Some state.new) }
 {
     match sort {
+        HandlerSort::Call => build_handle(
+            &mut state.long_names,
+            &mut state.numbers,
+            &mut state.nodes,
+        ),
         HandlerSort::Rule => build_effect_rule(&mut state.numbers, &mut state.rules),
         HandlerSort::Function => build_effect_function(
             rule,
@@ -180,6 +211,12 @@ fn reduce_part(
         ),
         PartSort::NamedPart => build_part(&mut state.words, &mut state.numbers, &mut state.parts),
         PartSort::Clause => build_clause(rule, token.place, &mut state.numbers, &mut state.clauses),
+        PartSort::ExceptionClause => build_exception_clause(
+            rule,
+            token.place,
+            &mut state.numbers,
+            &mut state.clauses,
+        ),
         PartSort::Binding => build_binding(
             rule,
             count,
@@ -304,7 +341,8 @@ fn reduce_at(
             &mut state.numbers,
             &mut state.nodes,
         ),
-        Sort::Compound(sort) => reduce_compound(alloc, sort, rule, token, count, state),
+        Sort::Named(sort) => reduce_named(alloc, sort, rule, token, count, state),
+        Sort::Compound(sort) => reduce_compound(sort, rule, token, count, state),
         Sort::Handler(sort) => reduce_handler(sort, rule, token, count, state),
         Sort::Part(sort) => reduce_part(alloc, sort, rule, token, count, state),
         Sort::Definition(sort) => reduce_definition(sort, rule, count, state),

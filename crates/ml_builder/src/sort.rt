@@ -14,23 +14,36 @@ pub enum FormSort {
     Type,
     /// A pattern of patterns.
     Pattern,
-    /// A bracket, a list, an array or a loop.
-    Enclosed,
-    /// An `if`, a tuple, a sequence or a function.
-    Unenclosed,
-    /// An operator, an application or an element.
+    /// A bracket round an expression.
+    Bracket,
+    /// So many expressions.
+    Several,
+    /// A `while` or an `if`.
+    Control,
+    /// A `fun`.
+    Fun,
+    /// An operator or an application.
     Operation,
+    /// An element of an array or of a string.
+    Element,
 }
 
-/// The sorts of forms that have more than numbers as their parts.
+/// The sorts of forms that have a name.
 #[derive(Clone, Copy)]
-pub enum CompoundSort {
+pub enum NamedSort {
     /// A long name alone.
     Name,
     /// A form with a word.
     WithWord,
+    /// A `for`.
+    For,
     /// A form with a long name.
     WithLongName,
+}
+
+/// The sorts of forms whose parts are no forms.
+#[derive(Clone, Copy)]
+pub enum CompoundSort {
     /// A form of named parts.
     Record,
     /// A form of clauses.
@@ -39,9 +52,11 @@ pub enum CompoundSort {
     Let,
 }
 
-/// The sorts of the parts of a handler.
+/// The sorts of forms with a handler, and of its parts.
 #[derive(Clone, Copy)]
 pub enum HandlerSort {
+    /// A call with a handler.
+    Call,
     /// A rule.
     Rule,
     /// A function.
@@ -63,6 +78,8 @@ pub enum PartSort {
     NamedPart,
     /// A clause.
     Clause,
+    /// An exception clause.
+    ExceptionClause,
     /// A binding.
     Binding,
 }
@@ -105,6 +122,7 @@ pub enum ItemSort {
 #[derive(Clone, Copy)]
 pub enum Sort {
     Form(FormSort),
+    Named(NamedSort),
     Compound(CompoundSort),
     Handler(HandlerSort),
     Part(PartSort),
@@ -134,29 +152,28 @@ pub fn sort_of(rule: Rule) -> Sort
         | Rule::PatternCons
         | Rule::PatternTuple
         | Rule::PatternOr => Sort::Form(FormSort::Pattern),
-        Rule::Bracket | Rule::BeginEnd | Rule::Annotated | Rule::List | Rule::Array | Rule::While =>
-            Sort::Form(FormSort::Enclosed),
-        Rule::If | Rule::IfElse | Rule::Tuple | Rule::Sequence | Rule::Fun => Sort::Form(
-            FormSort::Unenclosed,
+        Rule::Bracket | Rule::BeginEnd | Rule::Annotated => Sort::Form(FormSort::Bracket),
+        Rule::List | Rule::Array | Rule::Tuple | Rule::Sequence => Sort::Form(FormSort::Several),
+        Rule::While | Rule::If | Rule::IfElse => Sort::Form(FormSort::Control),
+        Rule::Fun => Sort::Form(FormSort::Fun),
+        Rule::Dereference | Rule::Negate | Rule::Binary(_) | Rule::Apply => Sort::Form(
+            FormSort::Operation,
         ),
-        Rule::Dereference
-        | Rule::Negate
-        | Rule::Binary(_)
-        | Rule::ArrayElement
-        | Rule::StringElement
-        | Rule::SetElement
-        | Rule::Apply => Sort::Form(FormSort::Operation),
+        Rule::ArrayElement | Rule::StringElement | Rule::SetElement => Sort::Form(
+            FormSort::Element,
+        ),
         Rule::TypeName | Rule::PatternConstructor | Rule::Variable | Rule::Constructor =>
-            Sort::Compound(CompoundSort::Name),
-        Rule::PatternAlias | Rule::Field | Rule::SetField | Rule::ForUpward | Rule::ForDownward =>
-            Sort::Compound(CompoundSort::WithWord),
-        Rule::TypeApply | Rule::PatternConstruct | Rule::Construct | Rule::Handle => Sort::Compound(
-            CompoundSort::WithLongName,
+            Sort::Named(NamedSort::Name),
+        Rule::PatternAlias | Rule::Field | Rule::SetField => Sort::Named(NamedSort::WithWord),
+        Rule::ForUpward | Rule::ForDownward => Sort::Named(NamedSort::For),
+        Rule::TypeApply | Rule::PatternConstruct | Rule::Construct => Sort::Named(
+            NamedSort::WithLongName,
         ),
         Rule::PatternRecord | Rule::PatternRecordOpen | Rule::Record | Rule::Handler =>
             Sort::Compound(CompoundSort::Record),
         Rule::Match | Rule::Try | Rule::Function => Sort::Compound(CompoundSort::Match),
         Rule::Let | Rule::LetRecursive => Sort::Compound(CompoundSort::Let),
+        Rule::Handle => Sort::Handler(HandlerSort::Call),
         Rule::EffectRule => Sort::Handler(HandlerSort::Rule),
         Rule::Resumption | Rule::EffectFunction | Rule::TypedEffectFunction => Sort::Handler(
             HandlerSort::Function,
@@ -166,11 +183,12 @@ pub fn sort_of(rule: Rule) -> Sort
         Rule::Word => Sort::Part(PartSort::Word),
         Rule::LongName => Sort::Part(PartSort::LongName),
         Rule::NamedPart => Sort::Part(PartSort::NamedPart),
-        Rule::ValueClause
-        | Rule::GuardedClause
-        | Rule::ExceptionClause
-        | Rule::GuardedExceptionClause
-        | Rule::EffectClause => Sort::Part(PartSort::Clause),
+        Rule::ValueClause | Rule::GuardedClause | Rule::EffectClause => Sort::Part(
+            PartSort::Clause,
+        ),
+        Rule::ExceptionClause | Rule::GuardedExceptionClause => Sort::Part(
+            PartSort::ExceptionClause,
+        ),
         Rule::PatternBinding | Rule::NamedBinding | Rule::AnnotatedBinding => Sort::Part(
             PartSort::Binding,
         ),

@@ -133,6 +133,56 @@ fn refuses_what_does_not_fit(rt: HostRuntime) -> Result<(), Fail> {
     Ok(())
 }
 
+// Whether the nodes are those of `f 1`.
+fn are_of_a_call(nodes: &[Node]) -> bool {
+    match nodes {
+        [
+            Node::Variable { name },
+            Node::Constant { place, literal },
+            Node::Apply {
+                function,
+                arguments,
+            },
+        ] => {
+            name.last.text.as_slice() == b"f".as_slice()
+                && place.column == 11
+                && literal.text.as_slice() == b"1".as_slice()
+                && *function == 0
+                && arguments.as_slice() == [1].as_slice()
+        }
+        _ => false,
+    }
+}
+
+// Whether the items are `let x =` and this node.
+fn bind_x(items: &[Item], node: u32) -> bool {
+    match items {
+        [
+            Item::Let {
+                place: _,
+                is_recursive,
+                bindings,
+            },
+        ] => match bindings.as_slice() {
+            [
+                Binding::Named {
+                    name,
+                    parameters,
+                    annotation: None,
+                    body,
+                },
+            ] => {
+                !*is_recursive
+                    && name.text.as_slice() == b"x".as_slice()
+                    && parameters.len() == 0
+                    && *body == node
+            }
+            _ => false,
+        },
+        _ => false,
+    }
+}
+
 #[test]
 fn builds_a_binding(rt: HostRuntime) -> Result<(), Fail> {
     let tokens = lex(rt.alloc(), b"let x = f 1")?;
@@ -146,50 +196,7 @@ fn builds_a_binding(rt: HostRuntime) -> Result<(), Fail> {
         reduction(&(Rule::LetItem, 0, 1)),
     ];
     let prog = build(rt.alloc(), &tokens, &reductions)?;
-    match prog.nodes.as_slice() {
-        [
-            Node::Variable { name },
-            Node::Constant { place, literal },
-            Node::Apply {
-                function,
-                arguments,
-            },
-        ] => {
-            assert_eq!(rt; name.last.text.as_slice(), b"f".as_slice());
-            assert_eq!(rt; place.column, 11);
-            assert_eq!(rt; literal.text.as_slice(), b"1".as_slice());
-            assert_eq!(rt; *function, 0);
-            assert_eq!(rt; arguments.as_slice(), [1].as_slice());
-        }
-        _ => assert!(rt; false, "other nodes"),
-    }
-    match prog.items.as_slice() {
-        [
-            Item::Let {
-                place: _,
-                is_recursive,
-                bindings,
-            },
-        ] => {
-            assert!(rt; !*is_recursive);
-            match bindings.as_slice() {
-                [
-                    Binding::Named {
-                        name,
-                        parameters,
-                        annotation,
-                        body,
-                    },
-                ] => {
-                    assert_eq!(rt; name.text.as_slice(), b"x".as_slice());
-                    assert_eq!(rt; parameters.len(), 0);
-                    assert!(rt; annotation.is_none());
-                    assert_eq!(rt; *body, 2);
-                }
-                _ => assert!(rt; false, "other bindings"),
-            }
-        }
-        _ => assert!(rt; false, "other items"),
-    }
+    assert!(rt; are_of_a_call(prog.nodes.as_slice()));
+    assert!(rt; bind_x(prog.items.as_slice(), 2));
     Ok(())
 }
