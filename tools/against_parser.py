@@ -31,7 +31,7 @@ import re
 import sys
 import threading
 
-from parser_program import ROOT, Program
+from parser_program import ANSWERS, ROOT, Program
 
 sys.setrecursionlimit(1000000)
 threading.stack_size(512 * 1024 * 1024)
@@ -487,6 +487,17 @@ let rec (x) = 1
 ;; ;; let x = 1 ;; ;; 2 ;; type t = A ;;
 let x = fun (a, b) _ [] "s" 1 A (B c) -> d
 let x = a.match_with
+let x = (1 + let y = 2 in y; , b)
+let x = (- let y = 2 in y; + b)
+let x = (let y = 1 in a; + b)
+let x = (let y = 1 in a; := b)
+let x = (a :: let y = 1 in a; :: b)
+let x = (a, let y = 1 in a; , b)
+let x = (a := let y = 1 in a; := b)
+let x = (! let y = 1 in a; .f)
+let x = (f !let y = 1 in a; b)
+let x = (if c then let y = 1 in a; , b)
+let x = (if c then let y = 1 in a; ; b)
 let x = (a : int) (b; c : int list -> 'a * 'b) begin a; b; end"""
 
 
@@ -623,7 +634,7 @@ def compare(folder, seed, count):
     cases = cases_of(folder, lexer, seed, count)
     strict = strict_of(parser)
     equal, handlers, operators, found = collections.Counter(), [], [], []
-    with Program() as program:
+    with Program(ANSWERS) as program:
         for (sort, text), ours in zip(cases, program.answers([text for _, text in cases])):
             theirs = answer_of(lexer, parser, strict, text)
             free = answer_of(lexer, parser, parser.Parser, text)

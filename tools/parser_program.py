@@ -1,12 +1,13 @@
 """Builds a small program over ml_parser in a temporary folder, and runs it.
 
-The program reads the texts on standard input, each behind its length in four bytes, and prints an answer to
+The program that answers reads the texts on standard input, each behind its length in four bytes, and prints an answer to
 each, which ends with a line of a dot. `syntax`, a line and a column, `limit depth`, what was found and the
 bound, and `memory` are refusals. A program is `ok`, its depth, `same` where the text that ml_syntax prints of
 it is read as the same program again and printed as the same text (else `other`), and a digest of its lines:
-one for each node of the arena and one for each item. With the word `lines` it prints the lines too. With the
-word `time` it reads standard input as one text, and prints the nanoseconds of lexing, those of lexing and
-parsing, and the counts of tokens and nodes.
+one for each node of the arena and one for each item. With the word `lines` it prints the lines too.
+
+The program that measures reads standard input as one text, and prints the nanoseconds of lexing, those of lexing
+and parsing, and the counts of tokens and nodes.
 """
 import os
 import shutil
@@ -37,7 +38,6 @@ use ml_syntax::{Prog, depth, print};
 use std::alloc::Global;
 use std::env;
 use std::io::{self, Read};
-use std::time::Instant;
 
 const LIMIT: usize = 16_777_216;
 
@@ -114,30 +114,11 @@ fn print_each(rt: &HostRuntime, input: &[u8], with_lines: bool) -> io::Result<()
     Ok(())
 }
 
-fn print_time(rt: &HostRuntime, text: &[u8]) -> io::Result<()> {
-    if text.len() > LIMIT {
-        return rt.println("long");
-    }
-    let start = Instant::now(rt)?;
-    let Ok(tokens) = lex(rt.alloc(), text) else {
-        return rt.println("no tokens");
-    };
-    let lexed = start.elapsed(rt)?;
-    let answer = parse(rt.alloc(), &tokens);
-    let both = start.elapsed(rt)?;
-    match answer {
-        Ok(prog) => println!(rt; "{} {} {} {}", lexed.as_nanos(), both.as_nanos(), tokens.len(), prog.nodes.len()),
-        Err(_) => println!(rt; "{} {} {} 0", lexed.as_nanos(), both.as_nanos(), tokens.len()),
-    }
-}
-
 fn main(rt: HostRuntime) -> io::Result<()> {
     let mut input = Vec::new(rt.alloc());
     rt.reader().read_to_end(&mut input)?;
-    match env::args(&rt)?.nth(1) {
-        Some(word) if word.as_str() == "time" => print_time(&rt, &input),
-        word => print_each(&rt, &input, word.is_some()),
-    }
+    let word = env::args(&rt)?.nth(1);
+    print_each(&rt, &input, word.is_some())
 }
 '''
 
@@ -538,8 +519,50 @@ pub fn describe(out: &mut Out, prog: &Prog) -> io::Result<()> {
 '''
 
 
+MEASURING = r'''//! Times the parsing of standard input.
+#![tactic(auto)]
+
+use ml_lexer::lex;
+use ml_parser::parse;
+use std::io::{self, Read};
+use std::time::Instant;
+
+const LIMIT: usize = 16_777_216;
+
+fn print_time(rt: &HostRuntime, text: &[u8]) -> io::Result<()> {
+    if text.len() > LIMIT {
+        return rt.println("long");
+    }
+    let start = Instant::now(rt)?;
+    let Ok(tokens) = lex(rt.alloc(), text) else {
+        return rt.println("no tokens");
+    };
+    let lexed = start.elapsed(rt)?;
+    let answer = parse(rt.alloc(), &tokens);
+    let both = start.elapsed(rt)?;
+    match answer {
+        Ok(prog) => println!(rt; "{} {} {} {}", lexed.as_nanos(), both.as_nanos(), tokens.len(), prog.nodes.len()),
+        Err(_) => println!(rt; "{} {} {} 0", lexed.as_nanos(), both.as_nanos(), tokens.len()),
+    }
+}
+
+fn main(rt: HostRuntime) -> io::Result<()> {
+    let mut input = Vec::new(rt.alloc());
+    rt.reader().read_to_end(&mut input)?;
+    print_time(&rt, &input)
+}
+'''
+
+# the sources of the two programs
+ANSWERS = {'main.rt': MAIN, 'arena.rt': ARENA}
+TIMES = {'main.rt': MEASURING}
+
+
 class Program:
-    """A temporary workspace with the program; leave it by `with`."""
+    """A temporary workspace with one of the programs; leave it by `with`."""
+
+    def __init__(self, sources):
+        self.sources = sources
 
     def __enter__(self):
         self.folder = tempfile.mkdtemp(prefix='parser_program_')
@@ -549,7 +572,7 @@ class Program:
             lines.append('%s: %s\n' % (crate, below))
         self.crate = os.path.join(self.folder, 'crates', 'parse_texts')
         os.makedirs(os.path.join(self.crate, 'src'))
-        for name, source in (('main.rt', MAIN), ('arena.rt', ARENA)):
+        for name, source in self.sources.items():
             with open(os.path.join(self.crate, 'src', name), 'w') as f:
                 f.write(source)
         with open(os.path.join(self.folder, 'crates.txt'), 'w') as f:
@@ -572,7 +595,7 @@ class Program:
 
     def build(self):
         """Proves and builds the program, and answers the path of the binary."""
-        run = subprocess.run(['rt', 'run', '--', 'time'], cwd=self.crate, input=b'', stdout=subprocess.PIPE, stderr=subprocess.PIPE)
+        run = subprocess.run(['rt', 'run'], cwd=self.crate, input=b'', stdout=subprocess.PIPE, stderr=subprocess.PIPE)
         path = os.path.join(self.crate, 'out', 'parse_texts')
         if run.returncode != 0 or not os.path.exists(path):
             raise SystemExit('the program is not proved or built:\n%s' % run.stderr.decode()[-2000:])
