@@ -7,15 +7,22 @@
 //!
 //! Promised: a node's parts stand before it in [`Nodes`], and a push adds what it is given and changes
 //! nothing else. [`depth`] is exact. [`role_of`], [`goes_on`], [`takes`] and the other questions on
-//! tokens give just what the definitions give.
+//! tokens give just what the definitions give. [`print`] refuses nothing but for want of memory; what
+//! it prints is tested.
 //!
 //! Stands on: fx_base, ml_lexer.
 #![tactic(auto)]
 
+mod binding_pieces;
+mod form_pieces;
+mod handler_pieces;
+mod item_pieces;
 mod level;
 mod node;
 mod node_depth;
 mod nodes;
+mod pieces;
+mod printing;
 mod prog;
 mod role;
 mod sequence;
@@ -30,6 +37,7 @@ pub use node::{
     Node,
 };
 pub use nodes::Nodes;
+pub use printing::print;
 pub use prog::{
     ConstructorDefinition, EffectDefinition, FieldDefinition, Item, Prog, TypeBody, TypeDefinition,
     depth,

@@ -1,7 +1,8 @@
-//! Calls with ample memory: the roles of tokens, and the depth of a small program.
+//! Calls with ample memory: the roles of tokens, and the depth and the text of a small program.
 
 use crate::{
-    BinaryOperator, Item, LongName, Name, Node, Nodes, Prog, Role, Sequence, Text, depth, role_of,
+    BinaryOperator, Item, LongName, Name, Node, Nodes, Prog, Role, Sequence, Text, depth, print,
+    role_of,
 };
 use fx_base::Place;
 use ml_lexer::lex;
@@ -48,7 +49,7 @@ fn variable(alloc: Global) -> Result<Node, AllocError> {
 }
 
 #[test]
-fn measures_depth(rt: HostRuntime) -> Result<(), Fail> {
+fn measures_and_prints(rt: HostRuntime) -> Result<(), Fail> {
     let alloc = rt.alloc();
     let mut nodes = Nodes::new(alloc);
     nodes.push(variable(alloc)?)?;
@@ -82,5 +83,7 @@ fn measures_depth(rt: HostRuntime) -> Result<(), Fail> {
     let prog = Prog { nodes, items };
     assert_eq!(rt; prog.nodes.as_slice().len(), 4);
     assert_eq!(rt; depth(&prog), 3);
+    let text = print(alloc, &prog)?;
+    assert_eq!(rt; text.as_slice(), b"( x ) + x ;;\n".as_slice());
     Ok(())
 }
