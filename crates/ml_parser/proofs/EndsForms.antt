@@ -22,7 +22,7 @@ unfolding settled changed changed_frame
 settled_once role [] rs r s m h = absurd (none-some s h)
 settled_once role (f ∷ fs) rs r s m h =
     sym (ap (λ (o : Option Rule). unless_made (state (f ∷ fs) rs) o (λ q. settled role fs (rs ++ reduction q f.token f.parts ∷ []))) m
-      ∙ ap (settled_behind role) h)
+    ∙ ap (settled_behind role) h)
 
 -- no form ends
 pub settled_none : (role : Role) (fs : List Frame) (rs : List Reduction) → made_before role (innermost fs) (last_made rs) ≡ None → settled role fs rs ≡ state fs rs

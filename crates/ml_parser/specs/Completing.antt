@@ -42,7 +42,7 @@ complete_head role = if begins_pattern role then (by (changes.Count forms.Bindin
 unfoldable pub complete_item : Awaits → Role → Option Move
 complete_item waits.FirstItem role = complete_first_item role
 complete_item waits.Definitions role = complete_definitions role
-complete_item waits.Definition role = complete_definition 
+complete_item waits.Definition role = complete_definition
 complete_item waits.DefinitionBody role = complete_body role
 complete_item waits.ConstructorEnd role = complete_constructor_name role
 complete_item waits.FieldTypeOrEnd role = complete_field_type role

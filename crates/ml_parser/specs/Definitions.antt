@@ -18,7 +18,7 @@ complete_definition = by_two (changes.Count forms.Definitions) (changes.Open for
 -- a token behind `type`: `_` is left
 unfoldable pub complete_definitions : Role → Option Move
 complete_definitions roles.Underscore = goes waits.Definitions
-complete_definitions _ = complete_definition 
+complete_definitions _ = complete_definition
 
 -- a `_` behind `type`
 unfoldable pub begin_effect_item : Role → Option Move

@@ -59,7 +59,7 @@ name_parameter = by_two (changes.Leaf rules.PatternName) (changes.Open forms.Eff
 
 -- a token where the parameter of `effc` comes; behind a bracket this comes next
 unfoldable pub take_parameter : Role → Awaits → Option Move
-take_parameter roles.Lower bracketed = name_parameter 
+take_parameter roles.Lower bracketed = name_parameter
 take_parameter roles.LeftParenthesis bracketed = by (changes.Open forms.EffectBracket 0) bracketed
 take_parameter _ bracketed = None
 

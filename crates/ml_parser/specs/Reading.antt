@@ -34,8 +34,8 @@ abbrev pub stepped : Option Move → ℕ → List Frame → List Reduction → O
 stepped None n fs rs = None
 stepped (Some m) n fs rs =
     option_map (λ s. situation m.next s.frames s.reductions)
-      (option_and_then (λ s. changed m.third n s.frames s.reductions)
-        (option_and_then (λ s. changed m.second n s.frames s.reductions) (changed m.first n fs rs)))
+    (option_and_then (λ s. changed m.third n s.frames s.reductions)
+    (option_and_then (λ s. changed m.second n s.frames s.reductions) (changed m.first n fs rs)))
 
 -- behind a whole part the forms end that end before a token, and a further part may begin
 unfoldable pub joined : Awaits → Role → ℕ → List Frame → List Reduction → Option Situation
@@ -53,8 +53,8 @@ taken r sign n s =
 abbrev pub token_read : Role → Sign → ℕ → Awaits → List Frame → List Reduction → Option Situation
 token_read r sign n a fs rs =
     option_and_then (taken r sign n)
-      (option_and_then (λ s. joined s.awaits r n s.frames s.reductions)
-        (stepped (complete a r (innermost fs) (around fs) (parts_of fs)) n fs rs))
+    (option_and_then (λ s. joined s.awaits r n s.frames s.reductions)
+    (stepped (complete a r (innermost fs) (around fs) (parts_of fs)) n fs rs))
 
 abbrev pub ended_by : Place → Option Situation → Result (List Reduction) Place
 ended_by end None = Err end
@@ -73,7 +73,7 @@ abbrev pub reads : LexedText → ℕ → List Lexeme → Awaits → List Frame �
 reads text n [] a fs rs = ended n text.ending a fs rs
 reads text n (t ∷ ts) a fs rs =
     ongoing t.place (token_read (role t) (sign_at text.lexemes a fs (role t) t.text) n a fs rs)
-      (λ s. reads text (n + 1) ts s.awaits s.frames s.reductions)
+    (λ s. reads text (n + 1) ts s.awaits s.frames s.reductions)
 
 -- the reductions of a text, or the place of its first fault
 abbrev pub reading : LexedText → Result (List Reduction) Place

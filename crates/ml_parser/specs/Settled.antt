@@ -27,4 +27,4 @@ unfoldable pub settled : Role → List Frame → List Reduction → State
 settled role [] rs = state [] rs
 settled role (f ∷ fs) rs =
     unless_made (state (f ∷ fs) rs) (made_before role f.form (last_made rs))
-      (λ r. settled role fs (rs ++ reduction r f.token f.parts ∷ []))
+    (λ r. settled role fs (rs ++ reduction r f.token f.parts ∷ []))

@@ -72,7 +72,10 @@ fn open_recursive(form: Form) -> Option<Move>
     ensures { result ≡ open_recursive form }
 {
     match form {
-        Form::Let(position) => by(Change::Become(Form::LetRecursive(position)), Awaits::Binding),
+        Form::Let(position) => by(
+            Change::Become(Form::LetRecursive(position)),
+            Awaits::Binding,
+        ),
         _ => None,
     }
 }
@@ -124,7 +127,10 @@ fn complete_plain_name(role: Role) -> Option<Move>
     ensures { result ≡ complete_plain_name role }
 {
     if goes_on_as_pattern(role) {
-        by(Change::Turn(Rule::PatternName, Form::BindingPattern), Awaits::After)
+        by(
+            Change::Turn(Rule::PatternName, Form::BindingPattern),
+            Awaits::After,
+        )
     } else {
         begin_head(role, Form::BindingHead)
     }
@@ -188,7 +194,11 @@ fn open_scope(position: Position, body: Form) -> Option<Move>
     match position {
         Position::Inside => by(Change::Become(body), Awaits::Expression),
         Position::Either => {
-            by_two(Change::Become(Form::Evaluating), Change::OpenOver(body), Awaits::Expression)
+            by_two(
+                Change::Become(Form::Evaluating),
+                Change::OpenOver(body),
+                Awaits::Expression,
+            )
         }
         Position::Item => None,
     }

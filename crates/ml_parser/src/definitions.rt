@@ -93,7 +93,11 @@ pub fn name_definition(role: Role) -> Option<Move>
 {
     match role {
         Role::Lower => {
-            by_two(Change::Leaf(Rule::Word), Change::Close(Rule::TypeHead), Awaits::DefinitionEquals)
+            by_two(
+                Change::Leaf(Rule::Word),
+                Change::Close(Rule::TypeHead),
+                Awaits::DefinitionEquals,
+            )
         }
         _ => None,
     }
@@ -245,7 +249,11 @@ pub fn begin_extended(role: Role) -> Option<Move>
     match role {
         Role::Lower => by(Change::Name(Rule::LongName), Awaits::ExtendedPlus),
         Role::Upper => {
-            by_two(Change::Leaf(Rule::Word), Change::Open(Form::ExtendedPath, 1), Awaits::ExtendedDot)
+            by_two(
+                Change::Leaf(Rule::Word),
+                Change::Open(Form::ExtendedPath, 1),
+                Awaits::ExtendedDot,
+            )
         }
         _ => None,
     }
@@ -269,7 +277,11 @@ pub fn take_extended_member(role: Role) -> Option<Move>
 {
     match role {
         Role::Upper => {
-            by_two(Change::Leaf(Rule::Word), Change::Count(Form::ExtendedPath), Awaits::ExtendedDot)
+            by_two(
+                Change::Leaf(Rule::Word),
+                Change::Count(Form::ExtendedPath),
+                Awaits::ExtendedDot,
+            )
         }
         Role::Lower => by_three(
             Change::Leaf(Rule::Word),
@@ -321,7 +333,11 @@ pub fn name_effect(role: Role) -> Option<Move>
 {
     match role {
         Role::Upper => {
-            by_two(Change::Leaf(Rule::Word), Change::Count(Form::Effects), Awaits::EffectColon)
+            by_two(
+                Change::Leaf(Rule::Word),
+                Change::Count(Form::Effects),
+                Awaits::EffectColon,
+            )
         }
         _ => None,
     }
@@ -355,7 +371,11 @@ pub fn name_opened(role: Role) -> Option<Move>
     ensures { result ≡ name_opened role }
 {
     match role {
-        Role::Upper => by_two(Change::Leaf(Rule::Word), Change::Count(Form::Open), Awaits::OpenEnd),
+        Role::Upper => by_two(
+            Change::Leaf(Rule::Word),
+            Change::Count(Form::Open),
+            Awaits::OpenEnd,
+        ),
         _ => None,
     }
 }

@@ -40,7 +40,11 @@ fn apply_last(form: Form, last: Last) -> Option<Move>
 pub fn join_expression(role: Role, form: Form, last: Last) -> Option<Move>
     ensures { result ≡ join_expression role form last }
 {
-    if begins_argument(role) { apply_last(form, last) } else { goes(Awaits::After) }
+    if begins_argument(role) {
+        apply_last(form, last)
+    } else {
+        goes(Awaits::After)
+    }
 }
 
 // A form of this level and its second part, where such a form may stand.
@@ -203,7 +207,11 @@ fn close_brace(form: Form) -> Option<Move>
 {
     match form {
         Form::Record => {
-            by_two(Change::Leaf(Rule::NamedPart), Change::Close(Rule::Record), Awaits::After)
+            by_two(
+                Change::Leaf(Rule::NamedPart),
+                Change::Close(Rule::Record),
+                Awaits::After,
+            )
         }
         Form::HandlerFields(missing) => close_handler(missing),
         _ => None,
@@ -261,7 +269,10 @@ fn to_guarded_answer(form: Form) -> Option<Move>
 {
     match form {
         Form::ValueGuard => by(Change::Become(Form::GuardedAnswer), Awaits::Expression),
-        Form::ExceptionGuard => by(Change::Become(Form::GuardedExceptionAnswer), Awaits::Expression),
+        Form::ExceptionGuard => by(
+            Change::Become(Form::GuardedExceptionAnswer),
+            Awaits::Expression,
+        ),
         _ => None,
     }
 }

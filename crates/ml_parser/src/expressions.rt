@@ -38,7 +38,11 @@ fn open_looser(level: u8, form: Form, outer: Form) -> Option<Move>
 fn open_loosest(form: Form, next: Awaits, outer: Form) -> Option<Move>
     ensures { result ≡ open_loosest form next outer }
 {
-    if level_of(outer) == 2 { None } else { by(Change::Open(form, 1), next) }
+    if level_of(outer) == 2 {
+        None
+    } else {
+        by(Change::Open(form, 1), next)
+    }
 }
 
 // A function that takes a handler: its name, and the function with its arguments.
@@ -65,7 +69,11 @@ pub fn begin(role: Role, outer: Form) -> Option<Move>
     match role {
         Role::Lower => by(Change::Name(Rule::Variable), Awaits::After),
         Role::Upper => {
-            by_two(Change::Leaf(Rule::Word), Change::Open(Form::Path, 1), Awaits::Constructed)
+            by_two(
+                Change::Leaf(Rule::Word),
+                Change::Open(Form::Path, 1),
+                Awaits::Constructed,
+            )
         }
         Role::Integer => by(Change::Leaf(Rule::Constant), Awaits::After),
         Role::Character => by(Change::Leaf(Rule::Constant), Awaits::After),
@@ -231,7 +239,11 @@ pub fn take_member(role: Role, outer: Form) -> Option<Move>
 {
     match role {
         Role::Upper => {
-            by_two(Change::Leaf(Rule::Word), Change::Count(Form::Path), Awaits::Constructed)
+            by_two(
+                Change::Leaf(Rule::Word),
+                Change::Count(Form::Path),
+                Awaits::Constructed,
+            )
         }
         Role::Lower => by_three(
             Change::Leaf(Rule::Word),
@@ -321,7 +333,11 @@ pub fn name_field(role: Role) -> Option<Move>
 {
     match role {
         Role::Lower => {
-            by_two(Change::Leaf(Rule::Word), Change::Count(Form::Record), Awaits::FieldEquals)
+            by_two(
+                Change::Leaf(Rule::Word),
+                Change::Count(Form::Record),
+                Awaits::FieldEquals,
+            )
         }
         _ => None,
     }
@@ -354,7 +370,11 @@ pub fn equals_expression(role: Role) -> Option<Move>
 fn sequence_of(parts: usize) -> Change
     ensures { result ≡ sequence_of parts }
 {
-    if parts >= 2 { Change::Close(Rule::Sequence) } else { Change::Withdraw }
+    if parts >= 2 {
+        Change::Close(Rule::Sequence)
+    } else {
+        Change::Withdraw
+    }
 }
 
 // The end of a sequence, and then of the form whose body it is.

@@ -132,7 +132,10 @@ pub fn begin_effects(role: Role) -> Option<Move>
     ensures { result ≡ begin_effects role }
 {
     match role {
-        Role::Fun => by(Change::Open(Form::EffectFunction, 1), Awaits::EffectParameter),
+        Role::Fun => by(
+            Change::Open(Form::EffectFunction, 1),
+            Awaits::EffectParameter,
+        ),
         Role::Function => by(Change::Open(Form::FunctionRules, 0), Awaits::FirstRule),
         _ => None,
     }
@@ -369,7 +372,10 @@ pub fn take_resumed(role: Role) -> Option<Move>
 {
     match role {
         Role::LeftParenthesis => {
-            by(Change::Open(Form::ContinuationBracket, 0), Awaits::ResumedOpened)
+            by(
+                Change::Open(Form::ContinuationBracket, 0),
+                Awaits::ResumedOpened,
+            )
         }
         _ => name_resumed_as(role, Awaits::ResumedArrow),
     }

@@ -26,7 +26,11 @@ fn begin_expression_item(role: Role) -> Option<Move>
 pub fn complete_first_item(role: Role) -> Option<Move>
     ensures { result ≡ complete_first_item role }
 {
-    if ends_item(role) { goes(Awaits::FirstItem) } else { begin_expression_item(role) }
+    if ends_item(role) {
+        goes(Awaits::FirstItem)
+    } else {
+        begin_expression_item(role)
+    }
 }
 
 /// The keyword of an item, or `;;`; a `let` stands in this position.

@@ -54,7 +54,11 @@ pub fn made_by(rule: Rule, count: usize) -> Last
 fn applied_to(count: usize) -> Last
     ensures { result ≡ applied_to count }
 {
-    if count == 1 { Last::AppliedToOne } else { Last::Other }
+    if count == 1 {
+        Last::AppliedToOne
+    } else {
+        Last::Other
+    }
 }
 
 /// The sort of the part that a form waits for.
@@ -492,5 +496,9 @@ fn ends_before(role: Role, form: Form, last: Last) -> bool
 pub fn made_before(role: Role, form: Form, last: Last) -> Option<Rule>
     ensures { result ≡ made_before role form last }
 {
-    if ends_before(role, form, last) { made_of(form) } else { None }
+    if ends_before(role, form, last) {
+        made_of(form)
+    } else {
+        None
+    }
 }

@@ -19,14 +19,21 @@ pub fn begin_pattern(role: Role) -> Option<Move>
         Role::Lower => by(Change::Leaf(Rule::PatternName), Awaits::After),
         Role::Underscore => by(Change::Leaf(Rule::PatternAny), Awaits::After),
         Role::Upper => {
-            by_two(Change::Leaf(Rule::Word), Change::Open(Form::PatternPath, 1), Awaits::PatternConstructed)
+            by_two(
+                Change::Leaf(Rule::Word),
+                Change::Open(Form::PatternPath, 1),
+                Awaits::PatternConstructed,
+            )
         }
         Role::Integer => by(Change::Leaf(Rule::PatternConstant), Awaits::After),
         Role::Character => by(Change::Leaf(Rule::PatternConstant), Awaits::After),
         Role::Text => by(Change::Leaf(Rule::PatternConstant), Awaits::After),
         Role::True => by(Change::Leaf(Rule::PatternConstant), Awaits::After),
         Role::False => by(Change::Leaf(Rule::PatternConstant), Awaits::After),
-        Role::LeftParenthesis => by(Change::Open(Form::PatternParenthesis, 1), Awaits::PatternOrUnit),
+        Role::LeftParenthesis => by(
+            Change::Open(Form::PatternParenthesis, 1),
+            Awaits::PatternOrUnit,
+        ),
         Role::LeftBracket => by(Change::Open(Form::PatternList, 1), Awaits::PatternOrEmpty),
         Role::LeftBrace => by(Change::Open(Form::PatternRecord, 0), Awaits::PatternField),
         _ => None,
@@ -39,9 +46,16 @@ pub fn begin_effect_pattern(role: Role) -> Option<Move>
     ensures { result ≡ begin_effect_pattern role }
 {
     match role {
-        Role::LeftParenthesis => by(Change::Open(Form::EffectParenthesis, 1), Awaits::EffectPattern),
+        Role::LeftParenthesis => by(
+            Change::Open(Form::EffectParenthesis, 1),
+            Awaits::EffectPattern,
+        ),
         Role::Upper => {
-            by_two(Change::Leaf(Rule::Word), Change::Open(Form::PatternPath, 1), Awaits::PatternConstructed)
+            by_two(
+                Change::Leaf(Rule::Word),
+                Change::Open(Form::PatternPath, 1),
+                Awaits::PatternConstructed,
+            )
         }
         _ => None,
     }
@@ -124,7 +138,11 @@ pub fn name_alias(role: Role) -> Option<Move>
 {
     match role {
         Role::Lower => {
-            by_two(Change::Leaf(Rule::Word), Change::Close(Rule::PatternAlias), Awaits::After)
+            by_two(
+                Change::Leaf(Rule::Word),
+                Change::Close(Rule::PatternAlias),
+                Awaits::After,
+            )
         }
         _ => None,
     }

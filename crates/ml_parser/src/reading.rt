@@ -75,7 +75,13 @@ fn read_token(
 ) -> Result<Option<Awaits>, AllocError>
     ensures { IfOk result (λ next. token_read role sign number awaits frames.old reductions.old ≡ option_map (λ a. situation a frames.new reductions.new) next) }
 {
-    let seen = complete(awaits, role, frames.innermost(), frames.around(), frames.parts());
+    let seen = complete(
+        awaits,
+        role,
+        frames.innermost(),
+        frames.around(),
+        frames.parts(),
+    );
     let Some(awaits) = step(seen, number, frames, reductions)? else {
         return Ok(None);
     };
@@ -83,7 +89,14 @@ fn read_token(
         return Ok(None);
     };
     let last = last_made(reductions);
-    let taken = take(awaits, role, sign, frames.innermost(), frames.around(), last);
+    let taken = take(
+        awaits,
+        role,
+        sign,
+        frames.innermost(),
+        frames.around(),
+        last,
+    );
     step(taken, number, frames, reductions)
 }
 

@@ -95,18 +95,16 @@ fn parameter_text<'a>(tokens: &'a Tokens, frames: &Frames) -> &'a [u8]
     ensures { result.now ≡ parameter_text tokens.now.lexemes frames.now }
 {
     let number = parameter_of(frames.at(0));
-    if number < tokens.len() { token_text(tokens, number) } else { b"".as_slice() }
+    if number < tokens.len() {
+        token_text(tokens, number)
+    } else {
+        b"".as_slice()
+    }
 }
 
 /// What a token is to a handler, where this is awaited.
 #[tactic(auto, unfolding(crate::specs::Signs::sign_at))]
-pub fn sign_at(
-    tokens: &Tokens,
-    awaits: Awaits,
-    frames: &Frames,
-    role: Role,
-    text: &[u8],
-) -> Sign
+pub fn sign_at(tokens: &Tokens, awaits: Awaits, frames: &Frames, role: Role, text: &[u8]) -> Sign
     ensures { result ≡ sign_at tokens.now.lexemes awaits frames.now role text.now }
 {
     match awaits {

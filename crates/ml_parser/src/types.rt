@@ -32,7 +32,11 @@ fn begin_one_of(role: Role, types: Types) -> Option<Move>
         Role::LeftParenthesis => by(Change::Open(Form::TypeParenthesis(types), 1), Awaits::Type),
         Role::Lower => by(Change::Name(Rule::TypeName), Awaits::After),
         Role::Upper => {
-            by_two(Change::Leaf(Rule::Word), Change::Open(Form::TypePath, 1), Awaits::TypeDot)
+            by_two(
+                Change::Leaf(Rule::Word),
+                Change::Open(Form::TypePath, 1),
+                Awaits::TypeDot,
+            )
         }
         _ => None,
     }
@@ -88,7 +92,11 @@ pub fn take_type_member(role: Role, form: Form) -> Option<Move>
     ensures { result ≡ take_type_member role form }
 {
     match role {
-        Role::Upper => by_two(Change::Leaf(Rule::Word), Change::Count(form), Awaits::TypeDot),
+        Role::Upper => by_two(
+            Change::Leaf(Rule::Word),
+            Change::Count(form),
+            Awaits::TypeDot,
+        ),
         Role::Lower => end_type_path(form),
         _ => None,
     }
@@ -102,7 +110,11 @@ pub fn name_type_constructor(role: Role) -> Option<Move>
     match role {
         Role::Lower => by(Change::Name(Rule::LongName), Awaits::After),
         Role::Upper => {
-            by_two(Change::Leaf(Rule::Word), Change::Open(Form::ConstructorPath, 1), Awaits::TypeDot)
+            by_two(
+                Change::Leaf(Rule::Word),
+                Change::Open(Form::ConstructorPath, 1),
+                Awaits::TypeDot,
+            )
         }
         _ => None,
     }
@@ -114,8 +126,14 @@ pub fn join_type(role: Role) -> Option<Move>
     ensures { result ≡ join_type role }
 {
     match role {
-        Role::Lower => by(Change::Open(Form::TypeApplication, 1), Awaits::TypeConstructor),
-        Role::Upper => by(Change::Open(Form::TypeApplication, 1), Awaits::TypeConstructor),
+        Role::Lower => by(
+            Change::Open(Form::TypeApplication, 1),
+            Awaits::TypeConstructor,
+        ),
+        Role::Upper => by(
+            Change::Open(Form::TypeApplication, 1),
+            Awaits::TypeConstructor,
+        ),
         _ => goes(Awaits::After),
     }
 }
@@ -161,7 +179,10 @@ fn close_type(form: Form) -> Option<Move>
 {
     match form {
         Form::TypeParenthesis(_) => by(Change::Close(Rule::TypeBracket), Awaits::After),
-        Form::TypeArguments(_) => by(Change::Become(Form::TypeApplication), Awaits::TypeConstructor),
+        Form::TypeArguments(_) => by(
+            Change::Become(Form::TypeApplication),
+            Awaits::TypeConstructor,
+        ),
         Form::PatternAnnotation => by(Change::Close(Rule::PatternAnnotated), Awaits::After),
         Form::Annotation => by(Change::Close(Rule::Annotated), Awaits::After),
         Form::EffectBracket => by(
