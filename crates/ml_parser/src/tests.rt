@@ -111,10 +111,10 @@ fn goes_deep_and_far(rt: HostRuntime) -> Result<(), Fail> {
         let text = repeated(alloc, before, part, 200_000, after)?;
         assert_eq!(rt; refusal_of(alloc, text.as_slice()), None, "{before:?}");
     }
-    let negations = repeated(alloc, b"let x = ", b"- ", 200_000, b"")?;
+    let negations = repeated(alloc, b"let x = ", b"- ", 20_000, b"")?;
     assert_eq!(rt;
         refusal_of(alloc, negations.as_slice()),
-        fault_at(1, 400_009)
+        fault_at(1, 40_009)
     );
     for deep in DEEP {
         let refusal = Refusal::Limit {
@@ -122,7 +122,10 @@ fn goes_deep_and_far(rt: HostRuntime) -> Result<(), Fail> {
             found: deep.found,
             bound: 400,
         };
-        for (count, answer) in [(deep.most, None), (deep.most + 1, Some(refusal))] {
+        for (count, answer) in [
+            (deep.most, None),
+            (deep.most.saturating_add(1), Some(refusal)),
+        ] {
             let text = nested(alloc, deep, count)?;
             assert_eq!(rt;
                 refusal_of(alloc, text.as_slice()),

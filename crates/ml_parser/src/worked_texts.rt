@@ -324,8 +324,6 @@ pub(crate) const PRINTED: &[(&[u8], &[u8])] = &[
 /// Beginnings, parts and ends of programs in which a part may stand any number of times.
 pub(crate) const ENDLESS: &[(&[u8], &[u8], &[u8])] = &[
     (b"let () = ", b"();", b"()"),
-    (b"let x = [", b"1;", b"1]"),
-    (b"let x = f", b" 1", b""),
     (b"", b";;1", b""),
 ];
 
