@@ -668,7 +668,10 @@ def main():
     thread = threading.Thread(target=lambda: status.append(compare(given.folder, given.seed, given.count)))
     thread.start()
     thread.join()
-    return status[0] if status else 2
+    if not status:
+        print('against_parser: no comparison was made', file=sys.stderr)
+        return 2
+    return status[0]
 
 
 if __name__ == '__main__':

@@ -23,7 +23,8 @@ CRATES = [
     ('ml_lexer', 'fx_base'),
     ('ml_syntax', 'fx_base ml_lexer'),
     ('ml_builder', 'fx_base ml_lexer ml_syntax'),
-    ('ml_parser', 'fx_base ml_lexer ml_syntax ml_builder'),
+    ('ml_moves', 'ml_syntax ml_builder'),
+    ('ml_parser', 'fx_base ml_lexer ml_syntax ml_builder ml_moves'),
 ]
 
 MAIN = r'''//! Parses standard input.

@@ -4,9 +4,9 @@ use Rattle.std.proofs.lemmas.Option.{none-some}
 use Rattle.ml_syntax.specs.declared.role.Role.{Role}
 use Rattle.ml_builder.specs.declared.reduction.Rule.{Rule}
 use Rattle.ml_builder.specs.declared.reduction.Reduction.{Reduction}
-use Rattle.ml_parser.specs.declared.form.Frame.{Frame}
-use Rattle.ml_parser.specs.declared.moves.Change.TheVariants as changes
-use Rattle.ml_parser.specs.Level.{made_before}
+use Rattle.ml_parser.specs.declared.frames.Frame.{Frame}
+use Rattle.ml_moves.specs.declared.moves.Change.TheVariants as changes
+use Rattle.ml_moves.specs.Level.{made_before}
 use Rattle.ml_parser.specs.Frames.{innermost}
 use Rattle.ml_parser.specs.Changed.{State, state, reduction, changed, changed_frame}
 use Rattle.ml_parser.specs.Settled.{last_made, unless_made, settled}

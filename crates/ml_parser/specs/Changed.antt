@@ -3,10 +3,10 @@ use Rattle.std.specs.Prelude.{ℕ, ◌+◌, ◌-◌, List, [], ◌∷◌, ◌++�
 use Rattle.ml_builder.specs.declared.reduction.Rule.{Rule}
 use Rattle.ml_builder.specs.declared.reduction.Rule.TheVariants as rules
 use Rattle.ml_builder.specs.declared.reduction.Reduction.{Reduction}
-use Rattle.ml_parser.specs.declared.form.Form.{Form}
-use Rattle.ml_parser.specs.declared.form.Frame.{Frame}
-use Rattle.ml_parser.specs.declared.moves.Change.{Change}
-use Rattle.ml_parser.specs.declared.moves.Change.TheVariants as changes
+use Rattle.ml_moves.specs.declared.form.Form.{Form}
+use Rattle.ml_parser.specs.declared.frames.Frame.{Frame}
+use Rattle.ml_moves.specs.declared.moves.Change.{Change}
+use Rattle.ml_moves.specs.declared.moves.Change.TheVariants as changes
 
 -- the open forms, the innermost first, and the reductions so far
 pub record State : Type 0 where

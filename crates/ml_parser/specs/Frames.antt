@@ -1,8 +1,8 @@
 -- The stack of open forms, the innermost first.
 use Rattle.std.specs.Prelude.{ℕ, List, get_or}
-use Rattle.ml_parser.specs.declared.form.Form.{Form}
-use Rattle.ml_parser.specs.declared.form.Form.TheVariants as forms
-use Rattle.ml_parser.specs.declared.form.Frame.{Frame}
+use Rattle.ml_moves.specs.declared.form.Form.{Form}
+use Rattle.ml_moves.specs.declared.form.Form.TheVariants as forms
+use Rattle.ml_parser.specs.declared.frames.Frame.{Frame}
 
 -- what stands for the whole text
 abbrev pub whole_text : Frame

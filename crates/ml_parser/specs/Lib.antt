@@ -1,16 +1,3 @@
-pub mod Level
-pub mod Moves
-pub mod Types
-pub mod Patterns
-pub mod Expressions
-pub mod Endings
-pub mod Clauses
-pub mod Bindings
-pub mod Definitions
-pub mod Handlers
-pub mod Items
-pub mod Completing
-pub mod Taking
 pub mod Frames
 pub mod Changed
 pub mod Settled

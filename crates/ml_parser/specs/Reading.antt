@@ -7,18 +7,18 @@ use Rattle.ml_syntax.specs.declared.role.Role.{Role}
 use Rattle.ml_syntax.specs.declared.role.Role.TheVariants as roles
 use Rattle.ml_syntax.specs.Role.{role}
 use Rattle.ml_builder.specs.declared.reduction.Reduction.{Reduction}
-use Rattle.ml_parser.specs.declared.form.Frame.{Frame}
-use Rattle.ml_parser.specs.declared.awaits.Awaits.{Awaits}
-use Rattle.ml_parser.specs.declared.awaits.Awaits.TheVariants as waits
-use Rattle.ml_parser.specs.declared.handlers.Sign.{Sign}
-use Rattle.ml_parser.specs.declared.handlers.Sign.TheVariants as signs
-use Rattle.ml_parser.specs.declared.moves.Move.{Move}
+use Rattle.ml_parser.specs.declared.frames.Frame.{Frame}
+use Rattle.ml_moves.specs.declared.awaits.Awaits.{Awaits}
+use Rattle.ml_moves.specs.declared.awaits.Awaits.TheVariants as waits
+use Rattle.ml_moves.specs.declared.handlers.Sign.{Sign}
+use Rattle.ml_moves.specs.declared.handlers.Sign.TheVariants as signs
+use Rattle.ml_moves.specs.declared.moves.Move.{Move}
 use Rattle.ml_parser.specs.Frames.{innermost, around, parts_of}
 use Rattle.ml_parser.specs.Changed.{State, changed}
 use Rattle.ml_parser.specs.Settled.{last_made, settled}
 use Rattle.ml_parser.specs.Signs.{sign_at}
-use Rattle.ml_parser.specs.Completing.{complete, join, join_dot}
-use Rattle.ml_parser.specs.Taking.{take}
+use Rattle.ml_moves.specs.Completing.{complete, join, join_dot}
+use Rattle.ml_moves.specs.Taking.{take}
 
 -- what may come next, the open forms and the reductions so far
 pub record Situation : Type 0 where

@@ -3,10 +3,10 @@ use Rattle.std.specs.Prelude.{ℕ, ◌-◌, List, [], ◌∷◌, ◌++◌, lengt
 use Rattle.ml_syntax.specs.declared.role.Role.{Role}
 use Rattle.ml_builder.specs.declared.reduction.Rule.{Rule}
 use Rattle.ml_builder.specs.declared.reduction.Reduction.{Reduction}
-use Rattle.ml_parser.specs.declared.form.Frame.{Frame}
-use Rattle.ml_parser.specs.declared.level.Last.{Last}
-use Rattle.ml_parser.specs.declared.level.Last.TheVariants as lasts
-use Rattle.ml_parser.specs.Level.{made_by, made_before}
+use Rattle.ml_parser.specs.declared.frames.Frame.{Frame}
+use Rattle.ml_moves.specs.declared.level.Last.{Last}
+use Rattle.ml_moves.specs.declared.level.Last.TheVariants as lasts
+use Rattle.ml_moves.specs.Level.{made_by, made_before}
 use Rattle.ml_parser.specs.Changed.{State, state, reduction}
 
 abbrev pub made_of_last : Option Reduction → Last

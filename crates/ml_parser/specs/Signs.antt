@@ -3,13 +3,13 @@ use Rattle.std.specs.Prelude.{ℕ, ◌+◌, ◌-◌, ◌^◌, min, Bool, List, [
 use Rattle.ml_lexer.specs.Lexeme.{Lexeme, texts}
 use Rattle.ml_syntax.specs.declared.role.Role.{Role}
 use Rattle.ml_syntax.specs.declared.role.Role.TheVariants as roles
-use Rattle.ml_parser.specs.declared.form.Form.TheVariants as forms
-use Rattle.ml_parser.specs.declared.form.Form.{Form}
-use Rattle.ml_parser.specs.declared.form.Frame.{Frame}
-use Rattle.ml_parser.specs.declared.awaits.Awaits.{Awaits}
-use Rattle.ml_parser.specs.declared.awaits.Awaits.TheVariants as waits
-use Rattle.ml_parser.specs.declared.handlers.Sign.{Sign}
-use Rattle.ml_parser.specs.declared.handlers.Sign.TheVariants as signs
+use Rattle.ml_moves.specs.declared.form.Form.TheVariants as forms
+use Rattle.ml_moves.specs.declared.form.Form.{Form}
+use Rattle.ml_parser.specs.declared.frames.Frame.{Frame}
+use Rattle.ml_moves.specs.declared.awaits.Awaits.{Awaits}
+use Rattle.ml_moves.specs.declared.awaits.Awaits.TheVariants as waits
+use Rattle.ml_moves.specs.declared.handlers.Sign.{Sign}
+use Rattle.ml_moves.specs.declared.handlers.Sign.TheVariants as signs
 use Rattle.ml_parser.specs.Frames.{frame_at}
 
 -- what the name of a field is

@@ -3,10 +3,9 @@
 ghost use Rattle.std.specs.Prelude.{◌≡◌, ◌+◌, [], ◌∷◌, ◌++◌, Some, OnOk};
 ghost use Rattle.ml_parser.specs.Changed.{changed, changed_frame, state};
 
-use crate::form::{Form, Frame};
-use crate::frames::Frames;
-use crate::moves::Change;
+use crate::frames::{Frame, Frames};
 use ml_builder::{Reduction, Rule};
+use ml_moves::{Change, Form};
 use ml_syntax::Sequence;
 use std::alloc::AllocError;
 

@@ -3,9 +3,17 @@
 ghost use Rattle.std.specs.Prelude.{◌≡◌, [], ◌∷◌, IfOk, OnOk};
 ghost use Rattle.ml_parser.specs.Frames.{around, innermost, parts_of, frame_at, whole_text};
 
-use crate::form::{Form, Frame};
+use ml_moves::Form;
 use std::alloc::{AllocError, Global};
 use std::marker::Model;
+
+/// An open form, the number of its token, and how many of its parts have begun.
+#[derive(Clone, Copy)]
+pub struct Frame {
+    pub form: Form,
+    pub token: usize,
+    pub parts: usize,
+}
 
 /// The open forms, which contracts see as a list, the innermost first.
 #[derive(Drop)]
@@ -15,7 +23,7 @@ pub struct Frames {
 
 impl Model for Frames {
     ghost use Rattle.std.specs.Prelude.{List, reverse};
-    ghost use Rattle.ml_parser.specs.declared.form.Frame.{Frame};
+    ghost use Rattle.ml_parser.specs.declared.frames.Frame.{Frame};
 
     ghost Value = { List Frame };
 

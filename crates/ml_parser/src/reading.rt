@@ -4,18 +4,14 @@ ghost use Rattle.std.specs.Prelude.{◌≡◌, Some, IfOk};
 ghost use Rattle.std.specs.Option.{option_map};
 ghost use Rattle.ml_parser.specs.Reading.{ended, joined, reading, situation, stepped, token_read};
 
-use crate::awaits::Awaits;
 use crate::changing::change;
-use crate::completing::{complete, join, join_dot};
 use crate::frames::Frames;
-use crate::handlers::Sign;
-use crate::moves::Move;
 use crate::settling::{last_made, settle};
 use crate::signs::sign_at;
-use crate::taking::take;
 use fx_base::Place;
 use ml_builder::Reduction;
 use ml_lexer::Tokens;
+use ml_moves::{Awaits, Move, Sign, complete, join, join_dot, take};
 use ml_syntax::{Role, Sequence, role_of};
 use std::alloc::{AllocError, Global};
 

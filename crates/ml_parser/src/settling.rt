@@ -6,9 +6,8 @@ ghost use Rattle.ml_parser.specs.Settled.{last_made, settled};
 
 use crate::changing::change;
 use crate::frames::Frames;
-use crate::level::{Last, made_before, made_by};
-use crate::moves::Change;
 use ml_builder::Reduction;
+use ml_moves::{Change, Last, made_before, made_by};
 use ml_syntax::{Role, Sequence};
 use std::alloc::AllocError;
 

@@ -3,11 +3,9 @@
 ghost use Rattle.std.specs.Prelude.{◌≡◌};
 ghost use Rattle.ml_parser.specs.Signs.{answer_sign, answer_text_sign, field_sign, field_text_sign, parameter_of, parameter_text, sign_at, subject_sign};
 
-use crate::awaits::Awaits;
-use crate::form::{Form, Frame};
-use crate::frames::Frames;
-use crate::handlers::Sign;
+use crate::frames::{Frame, Frames};
 use ml_lexer::{Tokens, token_text};
+use ml_moves::{Awaits, Form, Sign};
 use ml_syntax::Role;
 
 // What the name of a field is.

@@ -1,5 +1,5 @@
 use Rattle.std.proofs.Common.{◌≡◌, ◌∙◌, Some}
-use Rattle.ml_parser.specs.Level.{made_before}
+use Rattle.ml_moves.specs.Level.{made_before}
 use Rattle.ml_parser.specs.Frames.{innermost}
 use Rattle.ml_parser.specs.Changed.{state}
 use Rattle.ml_parser.specs.Settled.{last_made}

@@ -1,7 +1,7 @@
 //! What a token does behind an expression.
 
 ghost use Rattle.std.specs.Prelude.{◌≡◌};
-ghost use Rattle.ml_parser.specs.Endings.{after_expression, after_operand, all_missing, annotate, apply, apply_last, close_array, close_begin, close_brace, close_bracket, close_handler, close_loop, close_parenthesis, else_choose, end, follow, join_expression, next_handler_field, open_bound, open_clauses, open_handler, open_loop_body, open_operation, open_sequence, operate, pair, pair_with, select_from, then_choose, to_guarded_answer};
+ghost use Rattle.ml_moves.specs.Endings.{after_expression, after_operand, all_missing, annotate, apply, apply_last, close_array, close_begin, close_brace, close_bracket, close_handler, close_loop, close_parenthesis, else_choose, end, follow, join_expression, next_handler_field, open_bound, open_clauses, open_handler, open_loop_body, open_operation, open_sequence, operate, pair, pair_with, select_from, then_choose, to_guarded_answer};
 
 use crate::awaits::Awaits;
 use crate::form::{Form, HandlerKind, Missing};

@@ -1,7 +1,7 @@
 //! What a token does in a handler.
 
 ghost use Rattle.std.specs.Prelude.{◌≡◌};
-ghost use Rattle.ml_parser.specs.Handlers.{after_last, after_parameter, annotate_parameter, begin_answer, begin_effects, begin_last_rule, begin_match, begin_resumption, close_effect_type, close_rules, complete_first_rule, complete_rule, end_rules, equals_handler, name_effc, name_effect_type, name_exnc, name_handler_field, name_missing, name_parameter, name_resumed_as, name_retc, next_rule, open_answer, open_named_field, open_resumption, open_rules, take_bracketed, take_bracketed_resumed, take_first_rule_bar, take_opened, take_parameter, take_resumed, take_subject};
+ghost use Rattle.ml_moves.specs.Handlers.{after_last, after_parameter, annotate_parameter, begin_answer, begin_effects, begin_last_rule, begin_match, begin_resumption, close_effect_type, close_rules, complete_first_rule, complete_rule, end_rules, equals_handler, name_effc, name_effect_type, name_exnc, name_handler_field, name_missing, name_parameter, name_resumed_as, name_retc, next_rule, open_answer, open_named_field, open_resumption, open_rules, take_bracketed, take_bracketed_resumed, take_first_rule_bar, take_opened, take_parameter, take_resumed, take_subject};
 
 use crate::awaits::Awaits;
 use crate::form::{Form, Missing};

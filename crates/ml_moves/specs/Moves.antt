@@ -1,9 +1,9 @@
 -- What a token does.
 use Rattle.std.specs.Prelude.{Option, Some}
-use Rattle.ml_parser.specs.declared.awaits.Awaits.{Awaits}
-use Rattle.ml_parser.specs.declared.moves.Change.{Change}
-use Rattle.ml_parser.specs.declared.moves.Change.TheVariants as changes
-use Rattle.ml_parser.specs.declared.moves.Move.{Move}
+use Rattle.ml_moves.specs.declared.awaits.Awaits.{Awaits}
+use Rattle.ml_moves.specs.declared.moves.Change.{Change}
+use Rattle.ml_moves.specs.declared.moves.Change.TheVariants as changes
+use Rattle.ml_moves.specs.declared.moves.Move.{Move}
 
 -- three changes
 unfoldable pub by_three : Change → Change → Change → Awaits → Option Move

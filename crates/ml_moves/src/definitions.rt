@@ -1,7 +1,7 @@
 //! What a token does in the definitions of types, effects and exceptions.
 
 ghost use Rattle.std.specs.Prelude.{◌≡◌};
-ghost use Rattle.ml_parser.specs.Definitions.{after_definition, after_extended_word, after_field_type, after_opened_word, after_type_parameter, begin_body, begin_effect_item, begin_extended, begin_field_type, begin_type_head, close_record_type, complete_body, complete_constructor_name, complete_definition, complete_definitions, complete_field_type, complete_first_effect, complete_opened, equals_definition, extend, name_constructor, name_definition, name_effect, name_exception, name_field_type, name_opened, next_behind_bar, next_definition, open_argument, open_effect, open_field_type, take_extended_member, take_first_effect_bar, take_type_parameter};
+ghost use Rattle.ml_moves.specs.Definitions.{after_definition, after_extended_word, after_field_type, after_opened_word, after_type_parameter, begin_body, begin_effect_item, begin_extended, begin_field_type, begin_type_head, close_record_type, complete_body, complete_constructor_name, complete_definition, complete_definitions, complete_field_type, complete_first_effect, complete_opened, equals_definition, extend, name_constructor, name_definition, name_effect, name_exception, name_field_type, name_opened, next_behind_bar, next_definition, open_argument, open_effect, open_field_type, take_extended_member, take_first_effect_bar, take_type_parameter};
 
 use crate::awaits::Awaits;
 use crate::form::Form;

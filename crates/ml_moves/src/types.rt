@@ -1,7 +1,7 @@
 //! What a token does in a type.
 
 ghost use Rattle.std.specs.Prelude.{◌≡◌};
-ghost use Rattle.ml_parser.specs.Types.{after_type, after_type_word, begin_one_of, begin_open_type, begin_type, close_type, end_type_path, equals_type, join_type, multiply_type, name_type_constructor, next_type, take_type_member, to_type};
+ghost use Rattle.ml_moves.specs.Types.{after_type, after_type_word, begin_one_of, begin_open_type, begin_type, close_type, end_type_path, equals_type, join_type, multiply_type, name_type_constructor, next_type, take_type_member, to_type};
 
 use crate::awaits::Awaits;
 use crate::form::{Form, Types};

@@ -1,26 +1,26 @@
 -- What a token does that is taken.
 use Rattle.std.specs.Prelude.{Option, None}
 use Rattle.ml_syntax.specs.declared.role.Role.{Role}
-use Rattle.ml_parser.specs.declared.form.Form.{Form}
-use Rattle.ml_parser.specs.declared.form.Form.TheVariants as forms
-use Rattle.ml_parser.specs.declared.form.Position.TheVariants as positions
-use Rattle.ml_parser.specs.declared.awaits.Awaits.{Awaits}
-use Rattle.ml_parser.specs.declared.awaits.Awaits.TheVariants as waits
-use Rattle.ml_parser.specs.declared.moves.Move.{Move}
-use Rattle.ml_parser.specs.declared.level.Sort.{Sort}
-use Rattle.ml_parser.specs.declared.level.Sort.TheVariants as sorts
-use Rattle.ml_parser.specs.declared.level.Last.{Last}
-use Rattle.ml_parser.specs.declared.handlers.Sign.{Sign}
-use Rattle.ml_parser.specs.Level.{sort_of}
-use Rattle.ml_parser.specs.Types.{begin_type, after_type_word, take_type_member, name_type_constructor, after_type}
-use Rattle.ml_parser.specs.Patterns.{begin_pattern, begin_effect_pattern, close_unit_pattern, close_empty_pattern, after_pattern_constructor, take_pattern_member, name_alias, name_pattern_field, name_pattern_field_or_rest, equals_pattern_field, close_pattern_rest, after_pattern}
-use Rattle.ml_parser.specs.Expressions.{begin, begin_literal, close_unit, close_empty, after_constructor, take_member, select, set_field, set_element, name_field, name_counter, equals_expression}
-use Rattle.ml_parser.specs.Endings.{after_expression}
-use Rattle.ml_parser.specs.Clauses.{take_first_bar, begin_clause, name_continuation, open_effect_answer, next_clause}
-use Rattle.ml_parser.specs.Bindings.{begin_binding, begin_first_binding, take_head, after_bindings}
-use Rattle.ml_parser.specs.Definitions.{begin_effect_item, begin_type_head, take_type_parameter, after_type_parameter, name_definition, equals_definition, begin_body, name_constructor, open_argument, close_record_type, begin_field_type, name_field_type, open_field_type, begin_extended, after_extended_word, take_extended_member, extend, take_first_effect_bar, name_effect, open_effect, name_exception, name_opened, after_opened_word, after_definition}
-use Rattle.ml_parser.specs.Handlers.{name_handler_field, equals_handler, begin_effects, take_parameter, take_bracketed, take_opened, name_effect_type, close_effect_type, annotate_parameter, after_parameter, begin_match, take_subject, open_rules, take_first_rule_bar, begin_last_rule, begin_answer, open_answer, begin_resumption, take_resumed, take_bracketed_resumed, open_resumption, next_rule, after_last, end_rules}
-use Rattle.ml_parser.specs.Items.{begin_item}
+use Rattle.ml_moves.specs.declared.form.Form.{Form}
+use Rattle.ml_moves.specs.declared.form.Form.TheVariants as forms
+use Rattle.ml_moves.specs.declared.form.Position.TheVariants as positions
+use Rattle.ml_moves.specs.declared.awaits.Awaits.{Awaits}
+use Rattle.ml_moves.specs.declared.awaits.Awaits.TheVariants as waits
+use Rattle.ml_moves.specs.declared.moves.Move.{Move}
+use Rattle.ml_moves.specs.declared.level.Sort.{Sort}
+use Rattle.ml_moves.specs.declared.level.Sort.TheVariants as sorts
+use Rattle.ml_moves.specs.declared.level.Last.{Last}
+use Rattle.ml_moves.specs.declared.handlers.Sign.{Sign}
+use Rattle.ml_moves.specs.Level.{sort_of}
+use Rattle.ml_moves.specs.Types.{begin_type, after_type_word, take_type_member, name_type_constructor, after_type}
+use Rattle.ml_moves.specs.Patterns.{begin_pattern, begin_effect_pattern, close_unit_pattern, close_empty_pattern, after_pattern_constructor, take_pattern_member, name_alias, name_pattern_field, name_pattern_field_or_rest, equals_pattern_field, close_pattern_rest, after_pattern}
+use Rattle.ml_moves.specs.Expressions.{begin, begin_literal, close_unit, close_empty, after_constructor, take_member, select, set_field, set_element, name_field, name_counter, equals_expression}
+use Rattle.ml_moves.specs.Endings.{after_expression}
+use Rattle.ml_moves.specs.Clauses.{take_first_bar, begin_clause, name_continuation, open_effect_answer, next_clause}
+use Rattle.ml_moves.specs.Bindings.{begin_binding, begin_first_binding, take_head, after_bindings}
+use Rattle.ml_moves.specs.Definitions.{begin_effect_item, begin_type_head, take_type_parameter, after_type_parameter, name_definition, equals_definition, begin_body, name_constructor, open_argument, close_record_type, begin_field_type, name_field_type, open_field_type, begin_extended, after_extended_word, take_extended_member, extend, take_first_effect_bar, name_effect, open_effect, name_exception, name_opened, after_opened_word, after_definition}
+use Rattle.ml_moves.specs.Handlers.{name_handler_field, equals_handler, begin_effects, take_parameter, take_bracketed, take_opened, name_effect_type, close_effect_type, annotate_parameter, after_parameter, begin_match, take_subject, open_rules, take_first_rule_bar, begin_last_rule, begin_answer, open_answer, begin_resumption, take_resumed, take_bracketed_resumed, open_resumption, next_rule, after_last, end_rules}
+use Rattle.ml_moves.specs.Items.{begin_item}
 
 -- a token behind a whole part that is no type, pattern or expression
 unfoldable pub after_other : Role → Form → Option Move

@@ -2,26 +2,26 @@
 use Rattle.std.specs.Prelude.{ℕ, Option, if◌then◌else◌}
 use Rattle.ml_syntax.specs.declared.role.Role.{Role}
 use Rattle.ml_syntax.specs.declared.role.Role.TheVariants as roles
-use Rattle.ml_parser.specs.declared.form.Form.{Form}
-use Rattle.ml_parser.specs.declared.form.Form.TheVariants as forms
-use Rattle.ml_parser.specs.declared.awaits.Awaits.{Awaits}
-use Rattle.ml_parser.specs.declared.awaits.Awaits.TheVariants as waits
-use Rattle.ml_parser.specs.declared.moves.Change.TheVariants as changes
-use Rattle.ml_parser.specs.declared.moves.Move.{Move}
-use Rattle.ml_parser.specs.declared.level.Sort.{Sort}
-use Rattle.ml_parser.specs.declared.level.Sort.TheVariants as sorts
-use Rattle.ml_parser.specs.declared.level.Last.{Last}
-use Rattle.ml_parser.specs.Moves.{goes, by}
-use Rattle.ml_parser.specs.Level.{sort_of, made_of, begins_pattern}
-use Rattle.ml_parser.specs.Types.{join_type}
-use Rattle.ml_parser.specs.Patterns.{complete_pattern_constructor, join_pattern}
-use Rattle.ml_parser.specs.Expressions.{complete_constructor, complete_member, complete_selected, complete_indexed, complete_sequence}
-use Rattle.ml_parser.specs.Endings.{join_expression}
-use Rattle.ml_parser.specs.Clauses.{complete_clause, complete_first_clause}
-use Rattle.ml_parser.specs.Bindings.{complete_binding, complete_first_binding, complete_name}
-use Rattle.ml_parser.specs.Definitions.{complete_definition, complete_definitions, complete_body, complete_constructor_name, complete_field_type, complete_first_effect, complete_opened}
-use Rattle.ml_parser.specs.Handlers.{complete_rule, complete_first_rule}
-use Rattle.ml_parser.specs.Items.{complete_first_item}
+use Rattle.ml_moves.specs.declared.form.Form.{Form}
+use Rattle.ml_moves.specs.declared.form.Form.TheVariants as forms
+use Rattle.ml_moves.specs.declared.awaits.Awaits.{Awaits}
+use Rattle.ml_moves.specs.declared.awaits.Awaits.TheVariants as waits
+use Rattle.ml_moves.specs.declared.moves.Change.TheVariants as changes
+use Rattle.ml_moves.specs.declared.moves.Move.{Move}
+use Rattle.ml_moves.specs.declared.level.Sort.{Sort}
+use Rattle.ml_moves.specs.declared.level.Sort.TheVariants as sorts
+use Rattle.ml_moves.specs.declared.level.Last.{Last}
+use Rattle.ml_moves.specs.Moves.{goes, by}
+use Rattle.ml_moves.specs.Level.{sort_of, made_of, begins_pattern}
+use Rattle.ml_moves.specs.Types.{join_type}
+use Rattle.ml_moves.specs.Patterns.{complete_pattern_constructor, join_pattern}
+use Rattle.ml_moves.specs.Expressions.{complete_constructor, complete_member, complete_selected, complete_indexed, complete_sequence}
+use Rattle.ml_moves.specs.Endings.{join_expression}
+use Rattle.ml_moves.specs.Clauses.{complete_clause, complete_first_clause}
+use Rattle.ml_moves.specs.Bindings.{complete_binding, complete_first_binding, complete_name}
+use Rattle.ml_moves.specs.Definitions.{complete_definition, complete_definitions, complete_body, complete_constructor_name, complete_field_type, complete_first_effect, complete_opened}
+use Rattle.ml_moves.specs.Handlers.{complete_rule, complete_first_rule}
+use Rattle.ml_moves.specs.Items.{complete_first_item}
 
 -- a `)` is left, and any other token begins a part
 unfoldable pub unless_parenthesis : Role → Awaits → Awaits → Option Move

@@ -3,13 +3,13 @@ use Rattle.std.specs.Prelude.{ℕ, nat_le, Option, None, ◌&&◌, if◌then◌e
 use Rattle.ml_syntax.specs.declared.role.Role.{Role}
 use Rattle.ml_syntax.specs.declared.role.Role.TheVariants as roles
 use Rattle.ml_builder.specs.declared.reduction.Rule.TheVariants as rules
-use Rattle.ml_parser.specs.declared.form.Form.{Form}
-use Rattle.ml_parser.specs.declared.form.Form.TheVariants as forms
-use Rattle.ml_parser.specs.declared.awaits.Awaits.TheVariants as waits
-use Rattle.ml_parser.specs.declared.moves.Change.TheVariants as changes
-use Rattle.ml_parser.specs.declared.moves.Move.{Move}
-use Rattle.ml_parser.specs.Moves.{goes, by, by_two}
-use Rattle.ml_parser.specs.Level.{level_of, begins_pattern}
+use Rattle.ml_moves.specs.declared.form.Form.{Form}
+use Rattle.ml_moves.specs.declared.form.Form.TheVariants as forms
+use Rattle.ml_moves.specs.declared.awaits.Awaits.TheVariants as waits
+use Rattle.ml_moves.specs.declared.moves.Change.TheVariants as changes
+use Rattle.ml_moves.specs.declared.moves.Move.{Move}
+use Rattle.ml_moves.specs.Moves.{goes, by, by_two}
+use Rattle.ml_moves.specs.Level.{level_of, begins_pattern}
 
 -- a token where a pattern begins
 unfoldable pub begin_pattern : Role → Option Move

@@ -1,7 +1,7 @@
 //! What a token does among the bindings of `let`.
 
 ghost use Rattle.std.specs.Prelude.{◌≡◌};
-ghost use Rattle.ml_parser.specs.Bindings.{after_bindings, begin_binding, begin_first_binding, begin_head, begin_pattern_binding, complete_binding, complete_first_binding, complete_name, complete_plain_name, goes_on_as_pattern, open_annotation, open_body, open_name, open_recursive, open_scope, open_scope_of, take_head};
+ghost use Rattle.ml_moves.specs.Bindings.{after_bindings, begin_binding, begin_first_binding, begin_head, begin_pattern_binding, complete_binding, complete_first_binding, complete_name, complete_plain_name, goes_on_as_pattern, open_annotation, open_body, open_name, open_recursive, open_scope, open_scope_of, take_head};
 
 use crate::awaits::Awaits;
 use crate::form::{Form, Position};

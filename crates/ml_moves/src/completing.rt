@@ -2,7 +2,7 @@
 //! The token is looked at, and not yet taken.
 
 ghost use Rattle.std.specs.Prelude.{◌≡◌};
-ghost use Rattle.ml_parser.specs.Completing.{complete, complete_head, complete_item, join, join_dot, join_sort, unless_bracket, unless_parenthesis};
+ghost use Rattle.ml_moves.specs.Completing.{complete, complete_head, complete_item, join, join_dot, join_sort, unless_bracket, unless_parenthesis};
 
 use crate::awaits::Awaits;
 use crate::bindings::{complete_binding, complete_first_binding, complete_name};

@@ -1,7 +1,7 @@
 //! What a token does where an expression begins, and within names, fields and records.
 
 ghost use Rattle.std.specs.Prelude.{◌≡◌};
-ghost use Rattle.ml_parser.specs.Expressions.{after_constructor, begin, begin_least, begin_literal, begin_looser, close_empty, close_empty_array, close_empty_list, close_unit, complete_constructor, complete_indexed, complete_member, complete_selected, complete_sequence, end_with_outer, equals_expression, name_counter, name_field, open_assignment, open_handled, open_handled_member, open_looser, open_loosest, select, sequence_of, set_element, set_field, take_member};
+ghost use Rattle.ml_moves.specs.Expressions.{after_constructor, begin, begin_least, begin_literal, begin_looser, close_empty, close_empty_array, close_empty_list, close_unit, complete_constructor, complete_indexed, complete_member, complete_selected, complete_sequence, end_with_outer, equals_expression, name_counter, name_field, open_assignment, open_handled, open_handled_member, open_looser, open_loosest, select, sequence_of, set_element, set_field, take_member};
 
 use crate::awaits::Awaits;
 use crate::form::{Form, HandlerKind, Position};

@@ -240,11 +240,3 @@ pub enum Form {
     /// `(`, before the continuation of a rule.
     ContinuationBracket,
 }
-
-/// An open form, the number of its token, and how many of its parts have begun.
-#[derive(Clone, Copy)]
-pub struct Frame {
-    pub form: Form,
-    pub token: usize,
-    pub parts: usize,
-}

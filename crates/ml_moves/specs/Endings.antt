@@ -4,19 +4,19 @@ use Rattle.ml_syntax.specs.declared.role.Role.{Role}
 use Rattle.ml_syntax.specs.declared.role.Role.TheVariants as roles
 use Rattle.ml_syntax.specs.declared.node.BinaryOperator.{BinaryOperator}
 use Rattle.ml_builder.specs.declared.reduction.Rule.TheVariants as rules
-use Rattle.ml_parser.specs.declared.form.Form.{Form}
-use Rattle.ml_parser.specs.declared.form.Form.TheVariants as forms
-use Rattle.ml_parser.specs.declared.form.HandlerKind.{HandlerKind}
-use Rattle.ml_parser.specs.declared.form.HandlerKind.TheVariants as kinds
-use Rattle.ml_parser.specs.declared.form.Missing.{Missing}
-use Rattle.ml_parser.specs.declared.awaits.Awaits.TheVariants as waits
-use Rattle.ml_parser.specs.declared.moves.Change.TheVariants as changes
-use Rattle.ml_parser.specs.declared.moves.Move.{Move}
-use Rattle.ml_parser.specs.declared.level.Last.{Last}
-use Rattle.ml_parser.specs.declared.level.Last.TheVariants as lasts
+use Rattle.ml_moves.specs.declared.form.Form.{Form}
+use Rattle.ml_moves.specs.declared.form.Form.TheVariants as forms
+use Rattle.ml_moves.specs.declared.form.HandlerKind.{HandlerKind}
+use Rattle.ml_moves.specs.declared.form.HandlerKind.TheVariants as kinds
+use Rattle.ml_moves.specs.declared.form.Missing.{Missing}
+use Rattle.ml_moves.specs.declared.awaits.Awaits.TheVariants as waits
+use Rattle.ml_moves.specs.declared.moves.Change.TheVariants as changes
+use Rattle.ml_moves.specs.declared.moves.Move.{Move}
+use Rattle.ml_moves.specs.declared.level.Last.{Last}
+use Rattle.ml_moves.specs.declared.level.Last.TheVariants as lasts
 use Rattle.ml_syntax.specs.Level.{begins_argument, operator_level, is_operator, operator_of}
-use Rattle.ml_parser.specs.Moves.{goes, by, by_two, by_three}
-use Rattle.ml_parser.specs.Level.{level_of}
+use Rattle.ml_moves.specs.Moves.{goes, by, by_two, by_three}
+use Rattle.ml_moves.specs.Level.{level_of}
 
 -- an argument behind an expression, in this form
 unfoldable pub apply : Form → Option Move

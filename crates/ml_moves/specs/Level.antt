@@ -4,15 +4,15 @@ use Rattle.ml_syntax.specs.declared.role.Role.{Role}
 use Rattle.ml_syntax.specs.declared.role.Role.TheVariants as roles
 use Rattle.ml_builder.specs.declared.reduction.Rule.{Rule}
 use Rattle.ml_builder.specs.declared.reduction.Rule.TheVariants as rules
-use Rattle.ml_parser.specs.declared.form.Form.{Form}
-use Rattle.ml_parser.specs.declared.form.Form.TheVariants as forms
-use Rattle.ml_parser.specs.declared.form.Types.TheVariants as types_
-use Rattle.ml_parser.specs.declared.form.Position.{Position}
-use Rattle.ml_parser.specs.declared.form.Position.TheVariants as positions
-use Rattle.ml_parser.specs.declared.level.Sort.{Sort}
-use Rattle.ml_parser.specs.declared.level.Sort.TheVariants as sorts
-use Rattle.ml_parser.specs.declared.level.Last.{Last}
-use Rattle.ml_parser.specs.declared.level.Last.TheVariants as lasts
+use Rattle.ml_moves.specs.declared.form.Form.{Form}
+use Rattle.ml_moves.specs.declared.form.Form.TheVariants as forms
+use Rattle.ml_moves.specs.declared.form.Types.TheVariants as types_
+use Rattle.ml_moves.specs.declared.form.Position.{Position}
+use Rattle.ml_moves.specs.declared.form.Position.TheVariants as positions
+use Rattle.ml_moves.specs.declared.level.Sort.{Sort}
+use Rattle.ml_moves.specs.declared.level.Sort.TheVariants as sorts
+use Rattle.ml_moves.specs.declared.level.Last.{Last}
+use Rattle.ml_moves.specs.declared.level.Last.TheVariants as lasts
 use Rattle.ml_syntax.specs.Level.{begins_argument, right_level, takes}
 
 -- a type name that is applied to so many types

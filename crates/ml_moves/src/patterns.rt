@@ -1,7 +1,7 @@
 //! What a token does in a pattern.
 
 ghost use Rattle.std.specs.Prelude.{◌≡◌};
-ghost use Rattle.ml_parser.specs.Patterns.{after_pattern, after_pattern_constructor, alias_pattern, annotate_pattern, begin_effect_pattern, begin_pattern, close_empty_pattern, close_pattern, close_pattern_list, close_pattern_record, close_pattern_rest, close_unit_pattern, complete_pattern_constructor, equals_pattern, equals_pattern_field, guard_pattern, join_parameter, join_pattern, name_alias, name_pattern_field, name_pattern_field_or_rest, next_pattern, open_pattern, pair_pattern, take_pattern_member, to_answer};
+ghost use Rattle.ml_moves.specs.Patterns.{after_pattern, after_pattern_constructor, alias_pattern, annotate_pattern, begin_effect_pattern, begin_pattern, close_empty_pattern, close_pattern, close_pattern_list, close_pattern_record, close_pattern_rest, close_unit_pattern, complete_pattern_constructor, equals_pattern, equals_pattern_field, guard_pattern, join_parameter, join_pattern, name_alias, name_pattern_field, name_pattern_field_or_rest, next_pattern, open_pattern, pair_pattern, take_pattern_member, to_answer};
 
 use crate::awaits::Awaits;
 use crate::form::Form;

@@ -1,7 +1,7 @@
 //! What an open form waits for, and which forms end before a token.
 
 ghost use Rattle.std.specs.Prelude.{◌≡◌};
-ghost use Rattle.ml_parser.specs.Level.{applied_to, begins_pattern, definition_of, ends_before, ends_item, goes_on_with, is_applied_to_one, is_bar, is_comma, is_else, is_semicolon, is_star, joined_pattern, joined_type, let_item, level_of, made_before, made_by, made_of, sort_of, sort_of_others, takes_in};
+ghost use Rattle.ml_moves.specs.Level.{applied_to, begins_pattern, definition_of, ends_before, ends_item, goes_on_with, is_applied_to_one, is_bar, is_comma, is_else, is_semicolon, is_star, joined_pattern, joined_type, let_item, level_of, made_before, made_by, made_of, sort_of, sort_of_others, takes_in};
 
 use crate::form::{Form, Position, Types};
 use ml_builder::Rule;

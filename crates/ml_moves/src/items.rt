@@ -1,7 +1,7 @@
 //! What a token does between items.
 
 ghost use Rattle.std.specs.Prelude.{◌≡◌};
-ghost use Rattle.ml_parser.specs.Items.{begin_expression_item, begin_item, complete_first_item};
+ghost use Rattle.ml_moves.specs.Items.{begin_expression_item, begin_item, complete_first_item};
 
 use crate::awaits::Awaits;
 use crate::form::{Form, Position};

@@ -4,17 +4,17 @@ use Rattle.ml_syntax.specs.declared.role.Role.{Role}
 use Rattle.ml_syntax.specs.declared.role.Role.TheVariants as roles
 use Rattle.ml_builder.specs.declared.reduction.Rule.{Rule}
 use Rattle.ml_builder.specs.declared.reduction.Rule.TheVariants as rules
-use Rattle.ml_parser.specs.declared.form.Form.{Form}
-use Rattle.ml_parser.specs.declared.form.Form.TheVariants as forms
-use Rattle.ml_parser.specs.declared.form.Types.{Types}
-use Rattle.ml_parser.specs.declared.form.Types.TheVariants as types_
-use Rattle.ml_parser.specs.declared.awaits.Awaits.TheVariants as waits
-use Rattle.ml_parser.specs.declared.moves.Change.TheVariants as changes
-use Rattle.ml_parser.specs.declared.moves.Move.{Move}
-use Rattle.ml_parser.specs.declared.level.Sort.{Sort}
-use Rattle.ml_parser.specs.declared.level.Sort.TheVariants as sorts
-use Rattle.ml_parser.specs.Moves.{goes, by, by_two, by_three}
-use Rattle.ml_parser.specs.Level.{level_of}
+use Rattle.ml_moves.specs.declared.form.Form.{Form}
+use Rattle.ml_moves.specs.declared.form.Form.TheVariants as forms
+use Rattle.ml_moves.specs.declared.form.Types.{Types}
+use Rattle.ml_moves.specs.declared.form.Types.TheVariants as types_
+use Rattle.ml_moves.specs.declared.awaits.Awaits.TheVariants as waits
+use Rattle.ml_moves.specs.declared.moves.Change.TheVariants as changes
+use Rattle.ml_moves.specs.declared.moves.Move.{Move}
+use Rattle.ml_moves.specs.declared.level.Sort.{Sort}
+use Rattle.ml_moves.specs.declared.level.Sort.TheVariants as sorts
+use Rattle.ml_moves.specs.Moves.{goes, by, by_two, by_three}
+use Rattle.ml_moves.specs.Level.{level_of}
 
 -- a type variable or `_`, which stand among any types alone
 unfoldable pub begin_open_type : Rule → Types → Option Move

@@ -3,16 +3,16 @@ use Rattle.std.specs.Prelude.{false, Option, None, if◌then◌else◌}
 use Rattle.ml_syntax.specs.declared.role.Role.{Role}
 use Rattle.ml_syntax.specs.declared.role.Role.TheVariants as roles
 use Rattle.ml_builder.specs.declared.reduction.Rule.TheVariants as rules
-use Rattle.ml_parser.specs.declared.form.Form.{Form}
-use Rattle.ml_parser.specs.declared.form.Form.TheVariants as forms
-use Rattle.ml_parser.specs.declared.form.Missing.{Missing}
-use Rattle.ml_parser.specs.declared.awaits.Awaits.{Awaits}
-use Rattle.ml_parser.specs.declared.awaits.Awaits.TheVariants as waits
-use Rattle.ml_parser.specs.declared.moves.Change.TheVariants as changes
-use Rattle.ml_parser.specs.declared.moves.Move.{Move}
-use Rattle.ml_parser.specs.declared.handlers.Sign.{Sign}
-use Rattle.ml_parser.specs.declared.handlers.Sign.TheVariants as signs
-use Rattle.ml_parser.specs.Moves.{goes, by, by_two}
+use Rattle.ml_moves.specs.declared.form.Form.{Form}
+use Rattle.ml_moves.specs.declared.form.Form.TheVariants as forms
+use Rattle.ml_moves.specs.declared.form.Missing.{Missing}
+use Rattle.ml_moves.specs.declared.awaits.Awaits.{Awaits}
+use Rattle.ml_moves.specs.declared.awaits.Awaits.TheVariants as waits
+use Rattle.ml_moves.specs.declared.moves.Change.TheVariants as changes
+use Rattle.ml_moves.specs.declared.moves.Move.{Move}
+use Rattle.ml_moves.specs.declared.handlers.Sign.{Sign}
+use Rattle.ml_moves.specs.declared.handlers.Sign.TheVariants as signs
+use Rattle.ml_moves.specs.Moves.{goes, by, by_two}
 
 -- the field of a handler whose name comes, which then isn't missing
 unfoldable pub open_named_field : Missing → Awaits → Option Move

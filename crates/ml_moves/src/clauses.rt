@@ -1,7 +1,7 @@
 //! What a token does among the clauses of `match`, `try` and `function`.
 
 ghost use Rattle.std.specs.Prelude.{◌≡◌};
-ghost use Rattle.ml_parser.specs.Clauses.{begin_clause, begin_value, complete_clause, complete_effect, complete_exception, complete_first_clause, name_continuation, next_clause, open_effect_answer, take_first_bar, with_value};
+ghost use Rattle.ml_moves.specs.Clauses.{begin_clause, begin_value, complete_clause, complete_effect, complete_exception, complete_first_clause, name_continuation, next_clause, open_effect_answer, take_first_bar, with_value};
 
 use crate::awaits::Awaits;
 use crate::form::Form;

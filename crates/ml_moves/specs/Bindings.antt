@@ -3,15 +3,15 @@ use Rattle.std.specs.Prelude.{Bool, true, false, Option, None, if◌then◌else�
 use Rattle.ml_syntax.specs.declared.role.Role.{Role}
 use Rattle.ml_syntax.specs.declared.role.Role.TheVariants as roles
 use Rattle.ml_builder.specs.declared.reduction.Rule.TheVariants as rules
-use Rattle.ml_parser.specs.declared.form.Form.{Form}
-use Rattle.ml_parser.specs.declared.form.Form.TheVariants as forms
-use Rattle.ml_parser.specs.declared.form.Position.{Position}
-use Rattle.ml_parser.specs.declared.form.Position.TheVariants as positions
-use Rattle.ml_parser.specs.declared.awaits.Awaits.TheVariants as waits
-use Rattle.ml_parser.specs.declared.moves.Change.TheVariants as changes
-use Rattle.ml_parser.specs.declared.moves.Move.{Move}
-use Rattle.ml_parser.specs.Moves.{goes, by, by_two}
-use Rattle.ml_parser.specs.Level.{begins_pattern}
+use Rattle.ml_moves.specs.declared.form.Form.{Form}
+use Rattle.ml_moves.specs.declared.form.Form.TheVariants as forms
+use Rattle.ml_moves.specs.declared.form.Position.{Position}
+use Rattle.ml_moves.specs.declared.form.Position.TheVariants as positions
+use Rattle.ml_moves.specs.declared.awaits.Awaits.TheVariants as waits
+use Rattle.ml_moves.specs.declared.moves.Change.TheVariants as changes
+use Rattle.ml_moves.specs.declared.moves.Move.{Move}
+use Rattle.ml_moves.specs.Moves.{goes, by, by_two}
+use Rattle.ml_moves.specs.Level.{begins_pattern}
 
 -- a binding that begins with a pattern, which `let rec` doesn't take
 unfoldable pub begin_pattern_binding : Form → Option Move

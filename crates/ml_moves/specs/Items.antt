@@ -2,14 +2,14 @@
 use Rattle.std.specs.Prelude.{Option, None, if◌then◌else◌}
 use Rattle.ml_syntax.specs.declared.role.Role.{Role}
 use Rattle.ml_syntax.specs.declared.role.Role.TheVariants as roles
-use Rattle.ml_parser.specs.declared.form.Form.TheVariants as forms
-use Rattle.ml_parser.specs.declared.form.Position.{Position}
-use Rattle.ml_parser.specs.declared.awaits.Awaits.TheVariants as waits
-use Rattle.ml_parser.specs.declared.moves.Change.TheVariants as changes
-use Rattle.ml_parser.specs.declared.moves.Move.{Move}
+use Rattle.ml_moves.specs.declared.form.Form.TheVariants as forms
+use Rattle.ml_moves.specs.declared.form.Position.{Position}
+use Rattle.ml_moves.specs.declared.awaits.Awaits.TheVariants as waits
+use Rattle.ml_moves.specs.declared.moves.Change.TheVariants as changes
+use Rattle.ml_moves.specs.declared.moves.Move.{Move}
 use Rattle.ml_syntax.specs.Level.{begins_expression}
-use Rattle.ml_parser.specs.Moves.{goes, by}
-use Rattle.ml_parser.specs.Level.{ends_item}
+use Rattle.ml_moves.specs.Moves.{goes, by}
+use Rattle.ml_moves.specs.Level.{ends_item}
 
 -- an expression that is an item
 unfoldable pub begin_expression_item : Role → Option Move

@@ -1,7 +1,7 @@
 //! What a token does that is taken.
 
 ghost use Rattle.std.specs.Prelude.{◌≡◌};
-ghost use Rattle.ml_parser.specs.Taking.{after, after_other, take, take_in_expression, take_in_handler, take_in_item};
+ghost use Rattle.ml_moves.specs.Taking.{after, after_other, take, take_in_expression, take_in_handler, take_in_item};
 
 use crate::awaits::Awaits;
 use crate::bindings::{after_bindings, begin_binding, begin_first_binding, take_head};

@@ -1,7 +1,7 @@
 //! What a token does.
 
 ghost use Rattle.std.specs.Prelude.{◌≡◌};
-ghost use Rattle.ml_parser.specs.Moves.{by, by_three, by_two, goes};
+ghost use Rattle.ml_moves.specs.Moves.{by, by_three, by_two, goes};
 
 use crate::awaits::Awaits;
 use crate::form::Form;
