@@ -225,6 +225,7 @@ print_int 1
 
 /// Texts of one line that are no programs, each with the column of its fault.
 pub(crate) const FAULTS: &[(&[u8], u32)] = &[
+    (b"(* (* *) let () = ()", 1),
     (b"let x =", 8),
     (b"let x = 4611686018427387904", 9),
     (b"let x = 1 - 4611686018427387904", 13),
