@@ -217,9 +217,9 @@ fn element<'a>(
     enclosed(pieces, opening, index, closing)
 }
 
-// The pieces of an expression, where assignments and the forms that begin with a keyword are told here.
-// A semicolon ends each body of level 17, since one may have to: in `let x = 1 in a; ; b` the second
-// goes on with what stands around it.
+// The pieces of an expression, where assignments, `if` and `let` are told here. A semicolon ends each
+// body of level 17, since one may have to: in `let x = 1 in a; ; b` the second goes on with what stands
+// around it.
 fn loose_pieces<'a>(pieces: &mut Pieces<'a>, node: &'a Node) -> Result<(), AllocError> {
     match node {
         Node::SetField {
@@ -257,6 +257,13 @@ fn loose_pieces<'a>(pieces: &mut Pieces<'a>, node: &'a Node) -> Result<(), Alloc
             bindings(pieces, *is_recursive, bound.as_slice())?;
             enclosed(pieces, b"in", *body, b";")
         }
+        _ => clause_pieces(pieces, node),
+    }
+}
+
+// The pieces of an expression, where functions and forms with clauses are told here.
+fn clause_pieces<'a>(pieces: &mut Pieces<'a>, node: &'a Node) -> Result<(), AllocError> {
+    match node {
         Node::Match {
             subject,
             clauses: cases,

@@ -4,7 +4,7 @@ use crate::node::{EffectRule, Name, Node};
 use crate::pieces::{Pieces, enclosed, fields, forms, infix, long_name, name, word, words};
 use std::alloc::AllocError;
 
-/// The pieces of a call with a handler and of the parts of a handler. No form is left out.
+/// The pieces of a call with a handler, or of a part of a handler.
 pub(crate) fn handler_pieces<'a>(
     pieces: &mut Pieces<'a>,
     node: &'a Node,
@@ -23,6 +23,13 @@ pub(crate) fn handler_pieces<'a>(
             fields(pieces, parts.as_slice())?;
             word(pieces, b"}")
         }
+        _ => effect_pieces(pieces, node),
+    }
+}
+
+// The pieces of what stands behind `effc` in a handler. Each other form is told before.
+fn effect_pieces<'a>(pieces: &mut Pieces<'a>, node: &'a Node) -> Result<(), AllocError> {
+    match node {
         Node::EffectFunction {
             type_name,
             parameter,
