@@ -2,13 +2,13 @@
 use Rattle.std.proofs.Common.{◌≡◌, ℕ, ◌<◌, ◌^◌, ◌-◌, pos, neg_ℤ, ◌≤ℤ◌, Bool, true, false, ◌&&◌, List, [], ◌∷◌, ◌++◌, map, flat_map, nat_lt, int_le, refl, ap, sym, ◌∙◌, arith}
 use Rattle.std.specs.List.{list_all}
 use Rattle.std.proofs.lemmas.Grind.{common_steps}
-use Rattle.std.proofs.lemmas.List.Folds.{list_all-append, list_all-map}
+use Rattle.std.proofs.lemmas.List.Folds.{list_all-append}
 use Rattle.effect_meaning.specs.Arena.{Counts, Need, ALiteral, AType, APattern, ATerm, ATypeRow, AVariantRow, AFieldRow, AnExceptionRow, AnEffectRow, ACharacter, AnInteger, Met, AllMet, record_needs, clause_needs, effect_clause_needs, function_needs}
 use Rattle.effect_meaning.specs.declared.core_nodes.FieldPart.{FieldPart}
 use Rattle.effect_meaning.specs.declared.core_nodes.Clause.{Clause}
 use Rattle.effect_meaning.specs.declared.core_nodes.EffectClause.{EffectClause}
 use Rattle.effect_meaning.specs.declared.core_nodes.Function.{Function}
-use Rattle.core_rules.specs.Stands.{is_met, are_met}
+use Rattle.core_rules.specs.Stands.{is_met, are_met, all_below, fields_below}
 
 pub met_is : (c : Counts) (need : Need) → is_met c need ≡ true → Met c need
 met_is c (ALiteral n) h = grind arith
@@ -48,32 +48,41 @@ effect_clauses_met c ks = each_met (is_met c) effect_clause_needs ks
 pub functions_met : (c : Counts) (fs : List Function) → are_met c (flat_map function_needs fs) ≡ list_all (λ f. are_met c (function_needs f)) fs
 functions_met c fs = each_met (is_met c) function_needs fs
 
+-- numbers that are all below one
+pub below_is : (k : ℕ) (ns : List ℕ) → list_all (λ n. nat_lt n k) ns ≡ all_below k ns
+below_is k [] = refl
+below_is k (n ∷ ns) = ap (λ b. nat_lt n k && b) (below_is k ns)
+
+pub fields_below_is : (k m : ℕ) (fs : List FieldPart) → list_all (λ f. nat_lt f.field k && nat_lt f.part m) fs ≡ fields_below k m fs
+fields_below_is k m [] = refl
+fields_below_is k m (f ∷ fs) = ap (λ b. (nat_lt f.field k && nat_lt f.part m) && b) (fields_below_is k m fs)
+
 -- the parts of one sort
-pub types_met : (c : Counts) (ns : List ℕ) → are_met c (map AType ns) ≡ list_all (λ n. nat_lt n c.types) ns
-types_met c ns = list_all-map (is_met c) AType ns
+pub types_met : (c : Counts) (ns : List ℕ) → are_met c (map AType ns) ≡ all_below c.types ns
+types_met c [] = refl
+types_met c (n ∷ ns) = ap (λ b. nat_lt n c.types && b) (types_met c ns)
 
-pub patterns_met : (c : Counts) (ns : List ℕ) → are_met c (map APattern ns) ≡ list_all (λ n. nat_lt n c.patterns) ns
-patterns_met c ns = list_all-map (is_met c) APattern ns
+pub patterns_met : (c : Counts) (ns : List ℕ) → are_met c (map APattern ns) ≡ all_below c.patterns ns
+patterns_met c [] = refl
+patterns_met c (n ∷ ns) = ap (λ b. nat_lt n c.patterns && b) (patterns_met c ns)
 
-pub terms_met : (c : Counts) (ns : List ℕ) → are_met c (map ATerm ns) ≡ list_all (λ n. nat_lt n c.terms) ns
-terms_met c ns = list_all-map (is_met c) ATerm ns
+pub terms_met : (c : Counts) (ns : List ℕ) → are_met c (map ATerm ns) ≡ all_below c.terms ns
+terms_met c [] = refl
+terms_met c (n ∷ ns) = ap (λ b. nat_lt n c.terms && b) (terms_met c ns)
 
-pub type_rows_met : (c : Counts) (ns : List ℕ) → are_met c (map ATypeRow ns) ≡ list_all (λ n. nat_lt n c.type_rows) ns
-type_rows_met c ns = list_all-map (is_met c) ATypeRow ns
+pub type_rows_met : (c : Counts) (ns : List ℕ) → are_met c (map ATypeRow ns) ≡ all_below c.type_rows ns
+type_rows_met c [] = refl
+type_rows_met c (n ∷ ns) = ap (λ b. nat_lt n c.type_rows && b) (type_rows_met c ns)
 
-pub effect_rows_met : (c : Counts) (ns : List ℕ) → are_met c (map AnEffectRow ns) ≡ list_all (λ n. nat_lt n c.effect_rows) ns
-effect_rows_met c ns = list_all-map (is_met c) AnEffectRow ns
+pub effect_rows_met : (c : Counts) (ns : List ℕ) → are_met c (map AnEffectRow ns) ≡ all_below c.effect_rows ns
+effect_rows_met c [] = refl
+effect_rows_met c (n ∷ ns) = ap (λ b. nat_lt n c.effect_rows && b) (effect_rows_met c ns)
 
 -- the fields of a record
-fields_met : (c : Counts) (need : ℕ → Need) (fs : List FieldPart)
-    → are_met c (record_needs need fs) ≡ list_all (λ f. nat_lt f.field c.field_rows && is_met c (need f.part)) fs
-fields_met c need [] = refl
-fields_met c need (f ∷ fs) = let rest = fields_met c need fs in grind arith
+pub pattern_fields_met : (c : Counts) (fs : List FieldPart) → are_met c (record_needs APattern fs) ≡ fields_below c.field_rows c.patterns fs
+pattern_fields_met c [] = refl
+pattern_fields_met c (f ∷ fs) = let rest = pattern_fields_met c fs in grind arith
 
-pub pattern_fields_met : (c : Counts) (fs : List FieldPart)
-    → are_met c (record_needs APattern fs) ≡ list_all (λ f. nat_lt f.field c.field_rows && nat_lt f.part c.patterns) fs
-pattern_fields_met c fs = fields_met c APattern fs
-
-pub term_fields_met : (c : Counts) (fs : List FieldPart)
-    → are_met c (record_needs ATerm fs) ≡ list_all (λ f. nat_lt f.field c.field_rows && nat_lt f.part c.terms) fs
-term_fields_met c fs = fields_met c ATerm fs
+pub term_fields_met : (c : Counts) (fs : List FieldPart) → are_met c (record_needs ATerm fs) ≡ fields_below c.field_rows c.terms fs
+term_fields_met c [] = refl
+term_fields_met c (f ∷ fs) = let rest = term_fields_met c fs in grind arith

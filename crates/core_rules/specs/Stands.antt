@@ -1,6 +1,7 @@
 -- Whether all that a node or a row names stands in an arena, as a test that computes.
-use Rattle.std.specs.Prelude.{ℕ, ◌-◌, ◌^◌, pos, neg_ℤ, int_le, Bool, true, ◌&&◌, nat_lt, List, Option, Some, None}
+use Rattle.std.specs.Prelude.{ℕ, ◌-◌, ◌^◌, pos, neg_ℤ, int_le, Bool, true, ◌&&◌, nat_lt, List, [], ◌∷◌, Option, Some, None}
 use Rattle.std.specs.List.{list_all}
+use Rattle.effect_meaning.specs.declared.core_nodes.FieldPart.{FieldPart}
 use Rattle.effect_meaning.specs.Arena.{Counts, Need, ALiteral, AType, APattern, ATerm, ATypeRow, AVariantRow, AFieldRow, AnExceptionRow, AnEffectRow, ACharacter, AnInteger}
 
 -- whether a need is met where so many nodes and rows stand
@@ -25,3 +26,13 @@ are_met c needs = list_all (is_met c) needs
 abbrev pub is_some_below : ℕ → Option ℕ → Bool
 is_some_below k None = true
 is_some_below k (Some n) = nat_lt n k
+
+-- whether all numbers are below this one
+abbrev pub all_below : ℕ → List ℕ → Bool
+all_below k [] = true
+all_below k (n ∷ ns) = nat_lt n k && all_below k ns
+
+-- whether all fields are below the first number, and their parts below the second
+abbrev pub fields_below : ℕ → ℕ → List FieldPart → Bool
+fields_below k m [] = true
+fields_below k m (f ∷ fs) = (nat_lt f.field k && nat_lt f.part m) && fields_below k m fs

@@ -3,7 +3,7 @@
 ghost use Rattle.std.specs.Prelude.{◌≡◌, ℕ, IsTrue, ◌∷◌, ◌++◌, [], Option, nat_lt, ◌&&◌, map, flat_map, length};
 ghost use Rattle.std.specs.List.{list_all};
 ghost use Rattle.effect_meaning.specs.Arena.{counts, Need, ATerm, APattern, constant_needs, constructor_need, record_needs, type_needs, pattern_needs, clause_needs, effect_clause_needs, function_needs, term_needs, item_needs, variant_needs, field_needs, exception_needs, effect_needs, AType, if_any};
-ghost use Rattle.core_rules.specs.Stands.{are_met, is_met, is_some_below};
+ghost use Rattle.core_rules.specs.Stands.{are_met, is_met, is_some_below, all_below, fields_below};
 
 use effect_meaning::{
     Clause, Constant, Constructor, CoreArena, EffectClause, EffectRow, ExceptionRow, FieldPart,
@@ -17,10 +17,17 @@ fn is_there(n: u32, count: usize) -> bool
     (n as usize) < count
 }
 
-fn are_there(numbers: &[u32], count: usize) -> bool
+fn each_is_there(numbers: &[u32], count: usize) -> bool
     ensures { result ≡ list_all (λ n. nat_lt n count) numbers.now }
 {
     numbers.iter().all(|n| is_there(*n, count))
+}
+
+#[tactic(auto, using(crate::proofs::Needs::below_is))]
+fn are_there(numbers: &[u32], count: usize) -> bool
+    ensures { result ≡ all_below count numbers.now }
+{
+    each_is_there(numbers, count)
 }
 
 fn is_any_there(n: Option<u32>, count: usize) -> bool
@@ -54,15 +61,19 @@ fn constructor_stands(arena: &CoreArena, constructor: Constructor) -> bool
     }
 }
 
-fn fields_stand(arena: &CoreArena, fields: &[FieldPart], parts: usize) -> bool
-    ensures { result ≡ list_all (λ f. nat_lt f.field (length arena.now.field_rows) && nat_lt f.part parts) fields.now }
+fn each_field_is_there(fields: &[FieldPart], count: usize, parts: usize) -> bool
+    ensures { result ≡ list_all (λ f. nat_lt f.field count && nat_lt f.part parts) fields.now }
 {
-    let count = arena.field_rows().len();
     fields.iter().all(|field| is_there(field.field, count) && is_there(field.part, parts))
 }
 
+fn fields_stand(arena: &CoreArena, fields: &[FieldPart], parts: usize) -> bool
+    ensures { result ≡ fields_below (length arena.now.field_rows) parts fields.now }
+{
+    each_field_is_there(fields, arena.field_rows().len(), parts)
+}
+
 /// Whether a written type stands.
-#[tactic(auto, using(crate::proofs::Needs::types_met))]
 pub fn type_stands(arena: &CoreArena, node: &TypeExpression) -> bool
     ensures { result ≡ are_met (counts arena.now) (type_needs node.now) }
 {
@@ -79,7 +90,6 @@ pub fn type_stands(arena: &CoreArena, node: &TypeExpression) -> bool
 }
 
 /// Whether a pattern stands.
-#[tactic(auto, using(crate::proofs::Needs::patterns_met, crate::proofs::Needs::pattern_fields_met))]
 pub fn pattern_stands(arena: &CoreArena, node: &PatternNode) -> bool
     ensures { result ≡ are_met (counts arena.now) (pattern_needs node.now.form) }
 {
@@ -111,11 +121,16 @@ fn clause_stands(arena: &CoreArena, clause: &Clause) -> bool
         && is_any_there(clause.guard, arena.terms().len())
 }
 
-#[tactic(auto, using(crate::proofs::Needs::clauses_met))]
+fn each_of_clauses_stands(arena: &CoreArena, clauses: &[Clause]) -> bool
+    ensures { result ≡ list_all (λ k. are_met (counts arena.now) (clause_needs k)) clauses.now }
+{
+    clauses.iter().all(|clause| clause_stands(arena, clause))
+}
+
 fn clauses_stand(arena: &CoreArena, clauses: &[Clause]) -> bool
     ensures { result ≡ are_met (counts arena.now) (flat_map clause_needs clauses.now) }
 {
-    clauses.iter().all(|clause| clause_stands(arena, clause))
+    each_of_clauses_stands(arena, clauses)
 }
 
 // Whether the argument's pattern and the type of the continuation stand.
@@ -133,11 +148,16 @@ fn effect_clause_stands(arena: &CoreArena, clause: &EffectClause) -> bool
         && is_written(arena, clause.argument, clause.annotation)
 }
 
-#[tactic(auto, using(crate::proofs::Needs::effect_clauses_met))]
+fn each_of_effect_clauses_stands(arena: &CoreArena, clauses: &[EffectClause]) -> bool
+    ensures { result ≡ list_all (λ k. are_met (counts arena.now) (effect_clause_needs k)) clauses.now }
+{
+    clauses.iter().all(|clause| effect_clause_stands(arena, clause))
+}
+
 fn effect_clauses_stand(arena: &CoreArena, clauses: &[EffectClause]) -> bool
     ensures { result ≡ are_met (counts arena.now) (flat_map effect_clause_needs clauses.now) }
 {
-    clauses.iter().all(|clause| effect_clause_stands(arena, clause))
+    each_of_effect_clauses_stands(arena, clauses)
 }
 
 fn function_stands(arena: &CoreArena, function: &Function) -> bool
@@ -146,13 +166,16 @@ fn function_stands(arena: &CoreArena, function: &Function) -> bool
     is_there(function.body, arena.terms().len())
 }
 
-#[tactic(auto, using(crate::proofs::Needs::functions_met))]
+fn each_of_functions_stands(arena: &CoreArena, functions: &[Function]) -> bool
+    ensures { result ≡ list_all (λ k. are_met (counts arena.now) (function_needs k)) functions.now }
+{
+    functions.iter().all(|function| function_stands(arena, function))
+}
+
 fn functions_stand(arena: &CoreArena, functions: &[Function]) -> bool
     ensures { result ≡ are_met (counts arena.now) (flat_map function_needs functions.now) }
 {
-    functions
-        .iter()
-        .all(|function| function_stands(arena, function))
+    each_of_functions_stands(arena, functions)
 }
 
 /// Whether a term stands.
@@ -192,15 +215,14 @@ pub fn term_stands(arena: &CoreArena, node: &TermNode) -> bool
 }
 
 // Whether a term of the forms on data, exceptions and effects stands.
-#[tactic(auto, using(crate::proofs::Needs::terms_met, crate::proofs::Needs::term_fields_met))]
 fn data_stands(arena: &CoreArena, form: &TermForm) -> bool
     ensures { IsTrue result → IsTrue (are_met (counts arena.now) (term_needs form.now)) }
 {
     let count = arena.terms().len();
     match form {
-        TermForm::Tuple(parts) | TermForm::Array(parts) | TermForm::Primitive { parts, .. } => {
-            are_there(parts.as_slice(), count)
-        }
+        TermForm::Tuple(parts) => are_there(parts.as_slice(), count),
+        TermForm::Array(parts) => are_there(parts.as_slice(), count),
+        TermForm::Primitive { parts, .. } => are_there(parts.as_slice(), count),
         TermForm::Constructor(constructor) => constructor_stands(arena, *constructor),
         TermForm::Construct {
             constructor,
@@ -289,7 +311,6 @@ pub fn effect_stands(arena: &CoreArena, row: &EffectRow) -> bool
 }
 
 /// Whether an item stands.
-#[tactic(auto, using(crate::proofs::Needs::type_rows_met, crate::proofs::Needs::effect_rows_met))]
 pub fn item_stands(arena: &CoreArena, item: &Item) -> bool
     ensures { result ≡ are_met (counts arena.now) (item_needs item.now.form) }
 {

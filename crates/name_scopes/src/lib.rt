@@ -8,7 +8,7 @@
 //!
 //! Promised: only a breach or want of memory is refused.
 //!
-//! Stands on: `fx_base`, `ml_syntax`, `effect_meaning`, `indexmap`.
+//! Stands on: `fx_base`, `ml_syntax`, `effect_meaning`, `name_uses`, `indexmap`.
 #![tactic(auto)]
 
 mod builtins;
@@ -21,10 +21,5 @@ mod resolve_patterns;
 mod resolve_types;
 mod resolver;
 mod scopes;
-mod uses;
 
-pub use builtins::{
-    Builtin, CONS, FUNCTION_TYPE, GREATEST, INT_TYPE, LEAST, NIL, TUPLE_TYPE, TypeValue, Value,
-};
 pub use program::{Resolved, resolve};
-pub use uses::{ItemUse, Use, Uses};

@@ -7,7 +7,7 @@ use crate::groups::Groups;
 use crate::resolve_items::Rows;
 use crate::resolver::Resolver;
 use crate::scopes::Scopes;
-use crate::uses::Uses;
+use name_uses::Uses;
 use fx_base::Refusal;
 use ml_syntax::Prog;
 use std::alloc::{AllocError, Global};

@@ -1,7 +1,7 @@
 //! The names in expressions.
 
 use crate::resolver::{Resolver, Task};
-use crate::uses::Use;
+use name_uses::Use;
 use ml_syntax::{Binding, Clause, EffectRule, NamedPart, Node};
 use std::alloc::AllocError;
 
@@ -302,10 +302,8 @@ impl<'a> Resolver<'a> {
         }
         let first = self.uses.len();
         for (i, binding) in bindings.iter().enumerate().rev() {
-            self.push(Task::Binder {
-                binding,
-                at: first + i,
-            })?;
+            let at = first.checked_add(i).ok_or(AllocError)?;
+            self.push(Task::Binder { binding, at })?;
         }
         for _ in bindings {
             self.uses.add(0)?;

@@ -1,8 +1,7 @@
 //! The names in items, and those that they declare.
 
-use crate::builtins::TypeValue;
 use crate::resolver::{Resolver, Task, TypeSite};
-use crate::uses::ItemUse;
+use name_uses::{ItemUse, TypeValue};
 use effect_meaning::Constructor;
 use ml_syntax::{
     Binding, ConstructorDefinition, EffectDefinition, FieldDefinition, Item, LongName, Name,

@@ -1,7 +1,7 @@
 //! The names in patterns: those that they bind, and those that they use.
 
 use crate::resolver::{Resolver, Task};
-use crate::uses::Use;
+use name_uses::Use;
 use ml_syntax::{NamedPart, Node};
 use std::alloc::AllocError;
 

@@ -1,7 +1,7 @@
 //! The names in written types.
 
 use crate::resolver::{Resolver, Task, TypeSite};
-use crate::uses::Use;
+use name_uses::Use;
 use fx_base::Place;
 use ml_syntax::Node;
 use std::alloc::AllocError;

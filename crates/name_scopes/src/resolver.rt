@@ -2,11 +2,10 @@
 //!
 //! The walk keeps what is still to be done on a stack of its own, so that no text is too long for it.
 
-use crate::builtins::{TypeValue, Value};
 use crate::groups::Groups;
 use crate::names::Names;
 use crate::scopes::Scopes;
-use crate::uses::{Use, Uses};
+use name_uses::{TypeValue, Use, Uses, Value};
 use fx_base::Place;
 use ml_syntax::{Binding, Clause, EffectRule, LongName, Name, Node};
 use std::alloc::{AllocError, Global};

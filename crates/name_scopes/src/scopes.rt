@@ -1,12 +1,13 @@
 //! The names that are in scope, and the look-ups.
 
 use crate::builtins::{
-    Module, ModuleType, ModuleValue, TypeValue, Value, constructors_of, find, module_named,
-    module_within, plain_constructors, plain_types, plain_values, type_of, values_of,
+    Module, ModuleType, ModuleValue, constructors_of, find, module_named, module_within,
+    plain_constructors, plain_types, plain_values, type_of, values_of,
 };
 use crate::names::Names;
 use effect_meaning::Constructor;
 use ml_syntax::LongName;
+use name_uses::{TypeValue, Value};
 use std::alloc::{AllocError, Global};
 
 /// The names that are in scope.

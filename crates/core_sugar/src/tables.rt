@@ -1,7 +1,7 @@
 //! The rows of the built-in types, constructors and exceptions, which stand first in the tables.
 
 use crate::builder::Builder;
-use name_scopes::TUPLE_TYPE;
+use name_uses::TUPLE_TYPE;
 use crate::places::NOWHERE;
 use effect_meaning::{ExceptionRow, Sequence, TypeExpression, TypeRow, VariantRow};
 use std::alloc::AllocError;

@@ -1,7 +1,7 @@
 //! What items are made into, and the rows of what they declare.
 
 use crate::builder::{Builder, Made};
-use name_scopes::ItemUse;
+use name_uses::ItemUse;
 use effect_meaning::{EffectRow, ExceptionRow, FieldRow, ItemForm, Sequence, TypeRow, VariantRow};
 use fx_base::Place;
 use ml_syntax::{
@@ -87,7 +87,7 @@ impl<'a> Builder<'a> {
             return self.push_item(place, ItemForm::DefineRec(functions));
         }
         for (i, binding) in bindings.iter().enumerate() {
-            self.make_binding(place, binding, self.uses.number(first + i))?;
+            self.make_binding(place, binding, self.uses.number_behind(first, i))?;
         }
         Ok(())
     }

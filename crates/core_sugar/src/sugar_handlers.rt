@@ -1,7 +1,7 @@
 //! What matches, and the forms that handle exceptions and effects, are made into.
 
 use crate::builder::{Builder, Made};
-use name_scopes::Use;
+use name_uses::Use;
 use effect_meaning::{
     Clause, Constant, EffectClause, HandlerKind, HandlerTypes, Operation, PatternForm, Sequence,
     TermForm,

@@ -10,7 +10,7 @@ use effect_meaning::{
 };
 use fx_base::Place;
 use ml_syntax::Node;
-use name_scopes::{Builtin, Use, Uses};
+use name_uses::{Builtin, Use, Uses};
 use std::alloc::{AllocError, Global};
 
 /// What a node of the program was made into.

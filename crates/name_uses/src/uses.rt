@@ -1,6 +1,6 @@
 //! What the names of a program stand for, node by node.
 
-use crate::builtins::{TypeValue, Value};
+use crate::values::{TypeValue, Value};
 use effect_meaning::Constructor;
 use std::alloc::{AllocError, Global};
 
@@ -100,6 +100,14 @@ impl Uses {
     pub fn number(&self, at: usize) -> u32 {
         match self.numbers.get(at) {
             Some(number) => *number,
+            None => 0,
+        }
+    }
+
+    /// The number so many places behind a first one, or 0.
+    pub fn number_behind(&self, first: usize, count: usize) -> u32 {
+        match first.checked_add(count) {
+            Some(at) => self.number(at),
             None => 0,
         }
     }

@@ -1,8 +1,8 @@
 //! What expressions are made into.
 
 use crate::builder::{Builder, Made};
-use name_scopes::{Builtin, CONS, LEAST, NIL, Value};
-use name_scopes::Use;
+use name_uses::{Builtin, CONS, LEAST, NIL, Value};
+use name_uses::Use;
 use effect_meaning::{Comparison, Constant, Constructor, FieldPart, Operation, Sequence, TermForm};
 use fx_base::Place;
 use ml_syntax::{BinaryOperator, NamedPart, Node};
@@ -193,7 +193,7 @@ impl<'a> Builder<'a> {
         let mut made = Vec::with_capacity(self.alloc, fields.len())?;
         for (i, field) in fields.iter().enumerate() {
             made.push(FieldPart {
-                field: self.uses.number(first + i),
+                field: self.uses.number_behind(first, i),
                 part: self.term(field.part)?,
             })?;
         }
@@ -240,18 +240,13 @@ impl<'a> Builder<'a> {
         function: u32,
         arguments: &[u32],
     ) -> Result<(u32, usize), AllocError> {
-        match self.made(function) {
-            Made::Builtin(
-                Builtin {
-                    operation,
-                    arguments: count,
-                },
-            ) if count <= arguments.len() => {
-                let term = self.primitive(place, operation, &arguments[..count])?;
-                Ok((term, count))
-            }
-            _ => Ok((self.term(function)?, 0)),
+        if let Made::Builtin(builtin) = self.made(function)
+            && let Some((taken, _)) = arguments.split_at_checked(builtin.arguments)
+        {
+            let term = self.primitive(place, builtin.operation, taken)?;
+            return Ok((term, taken.len()));
         }
+        Ok((self.term(function)?, 0))
     }
 
     fn application(

@@ -1,7 +1,7 @@
 //! What functions, `let`, loops and choices are made into.
 
 use crate::builder::{Builder, Made};
-use name_scopes::Use;
+use name_uses::Use;
 use effect_meaning::{
     Clause, Comparison, Constant, Function, Operation, PatternForm, Sequence, TermForm,
 };
@@ -224,7 +224,7 @@ impl<'a> Builder<'a> {
     ) -> Result<Sequence<Function>, AllocError> {
         let mut functions = Vec::with_capacity(self.alloc, bindings.len())?;
         for (i, binding) in bindings.iter().enumerate() {
-            let name = self.uses.number(first + i);
+            let name = self.uses.number_behind(first, i);
             functions.push(self.rec_function(place, binding, name)?)?;
         }
         Ok(Sequence::from_vec(functions))
@@ -270,7 +270,7 @@ impl<'a> Builder<'a> {
             return self.push_term(place, TermForm::LetRec { functions, body });
         }
         for (i, binding) in bindings.iter().enumerate().rev() {
-            let name = self.uses.number(first + i);
+            let name = self.uses.number_behind(first, i);
             body = self.let_one(place, binding, name, body)?;
         }
         Ok(body)

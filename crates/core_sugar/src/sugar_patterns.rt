@@ -1,8 +1,8 @@
 //! What patterns are made into.
 
 use crate::builder::{Builder, Made};
-use name_scopes::{CONS, GREATEST, LEAST, NIL};
-use name_scopes::Use;
+use name_uses::{CONS, GREATEST, LEAST, NIL};
+use name_uses::Use;
 use effect_meaning::{Constant, Constructor, FieldPart, PatternForm, Sequence};
 use fx_base::Place;
 use ml_lexer::{character_byte, integer_value, string_bytes};
@@ -132,7 +132,7 @@ impl<'a> Builder<'a> {
         let mut made = Vec::with_capacity(self.alloc, fields.len())?;
         for (i, field) in fields.iter().enumerate() {
             made.push(FieldPart {
-                field: self.uses.number(first + i),
+                field: self.uses.number_behind(first, i),
                 part: self.pattern(field.part)?,
             })?;
         }

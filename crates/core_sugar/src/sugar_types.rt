@@ -1,8 +1,8 @@
 //! What written types are made into.
 
 use crate::builder::{Builder, Made};
-use name_scopes::{FUNCTION_TYPE, INT_TYPE, TUPLE_TYPE, TypeValue};
-use name_scopes::Use;
+use name_uses::{FUNCTION_TYPE, INT_TYPE, TUPLE_TYPE, TypeValue};
+use name_uses::Use;
 use effect_meaning::{Sequence, TypeExpression};
 use ml_syntax::Node;
 use std::alloc::AllocError;
