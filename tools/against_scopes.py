@@ -417,13 +417,28 @@ class Made(Writer):
     def __init__(self, lines):
         super().__init__()
         self.sorts = {k: [] for k in ('L', 'T', 'P', 'E', 'I', 'RT', 'RV', 'RF', 'RX', 'RE')}
-        for line in lines:
+        base, self.first, more = lines
+        self.count = 0
+        for line in base + more:
             w = Words(line)
+            w.of_prelude = self.count < len(base)
+            self.count += 1
             self.sorts[w.word()].append(w)
+        self.of_prelude = True
         self.done = {'v': 4, 'f': 0}
         for w in self.sorts['I']:
+            self.of_prelude = w.of_prelude
             self.new_item()
             self.item(w)
+
+    def bind(self, key):
+        return super().bind(self.key(key))
+
+    def use(self, key):
+        return super().use(self.key(key))
+
+    def key(self, key):
+        return ('prelude', key) if self.of_prelude and key >= self.first else key
 
     def read(self, sort, n):
         w = self.sorts[sort][n]
@@ -613,7 +628,7 @@ class Made(Writer):
             self.all([w.number(), w.number()])
             self.say(')')
         elif k == 'prim':
-            self.say('(prim', w.word())
+            self.say('(prim', w.word().removeprefix('Compare(').removesuffix(')'))
             self.all(w.numbers())
             self.say(')')
         elif k == 'catch':
@@ -733,10 +748,15 @@ def reference(modules, text, name):
     return 'ok', ' '.join(Reference(scope, program).out)
 
 
-def product(workspace, files):
+def run_batch(workspace, files):
     listing = os.path.join(workspace, 'list.txt')
+    empty = os.path.join(workspace, 'empty.ml')
+    open(empty, 'w').close()
+    one = os.path.join(workspace, 'one.ml')
+    with open(one, 'w') as f:
+        f.write('let one = 1\n')
     with open(listing, 'w') as f:
-        f.write('\n'.join(files) + '\n')
+        f.write('\n'.join([empty, one] + files) + '\n')
     run = subprocess.run(['rt', 'try', '--', listing], cwd=os.path.join(workspace, 'crates/core_dump'),
                          stdout=subprocess.PIPE, stderr=subprocess.PIPE)
     answers = []
@@ -745,9 +765,31 @@ def product(workspace, files):
             answers.append((line[3:], []))
         elif answers and line and line[0] in 'LTPEIR' and ' ' in line:
             answers[-1][1].append(line)
-    if len(answers) != len(files):
-        print('%d answers for %d files\n%s' % (len(answers), len(files), run.stderr.decode()[-2000:]))
-        os._exit(1)
+    if len(answers) != len(files) + 2:
+        return None, run.stderr.decode()[-1500:]
+    base = answers[0][1]
+    first = int([l for l in answers[1][1] if ' define ' in l][0].split()[4])
+    return [(a, (base, first, lines)) for a, lines in answers[2:]], ''
+
+
+def product(workspace, files):
+    answers = []
+    at, size = 0, 150
+    while at < len(files):
+        got, error = run_batch(workspace, files[at:at + size])
+        if got is None:
+            if size == 1:
+                print('no answer', files[at], error)
+                answers.append(('none', ([], 0, [])))
+                at += 1
+                size = 100
+                continue
+            size = max(1, size // 3)
+            continue
+        answers += got
+        at += size
+        size = min(200, size * 2)
+        print('..', at, flush=True)
     return answers
 
 

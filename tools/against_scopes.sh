@@ -1,29 +1,36 @@
 #!/bin/sh
 # Compares scopes and sugar with a reference implementation, in a workspace of its own.
 #
-#     against_scopes.sh ORACLE WORKSPACE DUMP PROGRAMS [SEED] [COUNT]
+#     against_scopes.sh ORACLE WORKSPACE PROGRAMS [SEED] [COUNT]
 #
-# DUMP is the folder of the program that writes the Core of files (crates/core_dump). The workspace gets copies of the
-# crates below it, so that nothing of the repository is changed.
+# The workspace gets copies of the crates and of the program that writes the Core of files (tools/core_dump), so that
+# nothing of the repository is changed. PARSER names the folder of another parser than crates/ml_parser.
 set -e
-oracle=$1 workspace=$2 dump=$3 programs=$4 seed=${5:-1} count=${6:-1000}
+oracle=$1 workspace=$2 programs=$3 seed=${4:-1} count=${5:-1000}
 top=$(cd "$(dirname "$0")/.." && pwd)
+parser=${PARSER:-$top/crates/ml_parser}
 mkdir -p "$workspace/crates"
-for crate in fx_base ml_lexer ml_syntax ml_parser prelude_ml effect_meaning core_terms; do
+for crate in fx_base ml_lexer ml_syntax effect_meaning name_uses name_scopes prelude_tree core_rules core_sugar core_terms; do
   rm -rf "$workspace/crates/$crate"
   cp -r "$top/crates/$crate" "$workspace/crates/$crate"
   rm -rf "$workspace/crates/$crate/out"
 done
-rm -rf "$workspace/crates/core_dump"
-cp -r "$dump" "$workspace/crates/core_dump"
+rm -rf "$workspace/crates/ml_parser" "$workspace/crates/core_dump"
+cp -r "$parser" "$workspace/crates/ml_parser"
+cp -r "$top/tools/core_dump" "$workspace/crates/core_dump"
 cat > "$workspace/crates.txt" <<'C'
 fx_base: thiserror
 ml_lexer: fx_base
 ml_syntax: fx_base ml_lexer
 ml_parser: fx_base ml_lexer ml_syntax
-prelude_ml: fx_base
 effect_meaning: fx_base
-core_terms: fx_base ml_lexer ml_syntax effect_meaning prelude_ml indexmap
-core_dump: fx_base ml_lexer ml_syntax ml_parser effect_meaning prelude_ml core_terms
+name_uses: effect_meaning
+name_scopes: fx_base ml_syntax effect_meaning name_uses indexmap
+prelude_tree: fx_base ml_syntax
+core_rules: fx_base effect_meaning
+core_sugar: fx_base ml_lexer ml_syntax effect_meaning name_uses core_rules
+core_terms: fx_base ml_syntax effect_meaning name_scopes prelude_tree core_sugar
+core_dump: anyhow fx_base ml_lexer ml_syntax ml_parser effect_meaning core_terms
 C
+cd "$workspace" && [ -d .git ] || git init -q .
 exec python3 "$top/tools/against_scopes.py" "$oracle" "$workspace" "$programs" "$seed" "$count"
