@@ -1320,7 +1320,7 @@ fn node(alloc: Global, place: Place, form: Form) -> Result<Node, AllocError> {
 
 fn nodes(alloc: Global) -> Result<Nodes, AllocError> {
     let mut nodes = Nodes::new(alloc);
-    for entry in NODES {
+    for entry in NODES.iter() {
         nodes.push(node(alloc, entry.place, entry.form)?)?;
     }
     Ok(nodes)
