@@ -8,7 +8,7 @@ use crate::resolve_items::Rows;
 use crate::resolver::Resolver;
 use crate::scopes::Scopes;
 use name_uses::Uses;
-use fx_base::Refusal;
+use fx_base::{Place, Refusal};
 use ml_syntax::Prog;
 use std::alloc::{AllocError, Global};
 
@@ -82,6 +82,30 @@ fn walk_prelude<'a>(
     Ok((known, uses))
 }
 
+// What the names of the prelude and of a program behind it stand for, or the place of the first breach.
+fn walk_both(
+    alloc: Global,
+    prelude: &Prog,
+    prog: &Prog,
+) -> Result<Result<Resolved, Place>, AllocError> {
+    let (known, prelude) = walk_prelude(alloc, prelude)?;
+    let (known, program) = walk(alloc, known, prog)?;
+    let Known {
+        scopes,
+        mut groups,
+        rows: _,
+    } = known;
+    if let Some(place) = groups.breach() {
+        return Ok(Err(place));
+    }
+    Ok(Ok(Resolved {
+        prelude,
+        program,
+        append: scopes.append(),
+        next_name: groups.new_name()?,
+    }))
+}
+
 /// What the names of the prelude and of a program behind it stand for.
 ///
 /// # Errors
@@ -90,21 +114,8 @@ fn walk_prelude<'a>(
 pub fn resolve(alloc: Global, prelude: &Prog, prog: &Prog) -> Result<Resolved, Refusal>
     ensures refused { IfErr result IsNameOrMemory }
 {
-    let (known, prelude) = walk_prelude(alloc, prelude)?;
-    let (known, program) = walk(alloc, known, prog)?;
-    let Known {
-        scopes,
-        groups,
-        rows: _,
-    } = known;
-    if let Some(place) = groups.breach() {
-        return Err(Refusal::Name(place));
+    match walk_both(alloc, prelude, prog)? {
+        Ok(resolved) => Ok(resolved),
+        Err(place) => Err(Refusal::Name(place)),
     }
-    let mut groups = groups;
-    Ok(Resolved {
-        prelude,
-        program,
-        append: scopes.append(),
-        next_name: groups.new_name()?,
-    })
 }
