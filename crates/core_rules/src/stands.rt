@@ -151,7 +151,9 @@ fn effect_clause_stands(arena: &CoreArena, clause: &EffectClause) -> bool
 fn each_of_effect_clauses_stands(arena: &CoreArena, clauses: &[EffectClause]) -> bool
     ensures { result ≡ list_all (λ k. are_met (counts arena.now) (effect_clause_needs k)) clauses.now }
 {
-    clauses.iter().all(|clause| effect_clause_stands(arena, clause))
+    clauses
+        .iter()
+        .all(|clause| effect_clause_stands(arena, clause))
 }
 
 fn effect_clauses_stand(arena: &CoreArena, clauses: &[EffectClause]) -> bool
@@ -169,7 +171,9 @@ fn function_stands(arena: &CoreArena, function: &Function) -> bool
 fn each_of_functions_stands(arena: &CoreArena, functions: &[Function]) -> bool
     ensures { result ≡ list_all (λ k. are_met (counts arena.now) (function_needs k)) functions.now }
 {
-    functions.iter().all(|function| function_stands(arena, function))
+    functions
+        .iter()
+        .all(|function| function_stands(arena, function))
 }
 
 fn functions_stand(arena: &CoreArena, functions: &[Function]) -> bool

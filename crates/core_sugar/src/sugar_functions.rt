@@ -1,12 +1,12 @@
 //! What functions, `let`, loops and choices are made into.
 
 use crate::builder::{Builder, Made};
-use name_uses::Use;
 use effect_meaning::{
     Clause, Comparison, Constant, Function, Operation, PatternForm, Sequence, TermForm,
 };
 use fx_base::Place;
 use ml_syntax::{Binding, Node};
+use name_uses::Use;
 use std::alloc::AllocError;
 
 /// A function: its parameter and its body.

@@ -1,13 +1,13 @@
 //! What matches, and the forms that handle exceptions and effects, are made into.
 
 use crate::builder::{Builder, Made};
-use name_uses::Use;
 use effect_meaning::{
     Clause, Constant, EffectClause, HandlerKind, HandlerTypes, Operation, PatternForm, Sequence,
     TermForm,
 };
 use fx_base::Place;
 use ml_syntax::{Clause as SourceClause, EffectRule, NamedPart, Node};
+use name_uses::Use;
 use std::alloc::AllocError;
 
 /// The parts of a handler: the function that runs under it or the continuation, its argument, and

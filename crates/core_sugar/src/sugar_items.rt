@@ -1,13 +1,13 @@
 //! What items are made into, and the rows of what they declare.
 
 use crate::builder::{Builder, Made};
-use name_uses::ItemUse;
 use effect_meaning::{EffectRow, ExceptionRow, FieldRow, ItemForm, Sequence, TypeRow, VariantRow};
 use fx_base::Place;
 use ml_syntax::{
     Binding, ConstructorDefinition, EffectDefinition, FieldDefinition, Item, TypeBody,
     TypeDefinition,
 };
+use name_uses::ItemUse;
 use std::alloc::AllocError;
 
 impl<'a> Builder<'a> {

@@ -1,12 +1,11 @@
 //! What patterns are made into.
 
 use crate::builder::{Builder, Made};
-use name_uses::{CONS, GREATEST, LEAST, NIL};
-use name_uses::Use;
 use effect_meaning::{Constant, Constructor, FieldPart, PatternForm, Sequence};
 use fx_base::Place;
 use ml_lexer::{character_byte, integer_value, string_bytes};
 use ml_syntax::{Literal, LiteralKind, NamedPart, Node};
+use name_uses::{CONS, GREATEST, LEAST, NIL, Use};
 use std::alloc::AllocError;
 
 impl<'a> Builder<'a> {

@@ -1,11 +1,10 @@
 //! What expressions are made into.
 
 use crate::builder::{Builder, Made};
-use name_uses::{Builtin, CONS, LEAST, NIL, Value};
-use name_uses::Use;
 use effect_meaning::{Comparison, Constant, Constructor, FieldPart, Operation, Sequence, TermForm};
 use fx_base::Place;
 use ml_syntax::{BinaryOperator, NamedPart, Node};
+use name_uses::{Builtin, CONS, LEAST, NIL, Use, Value};
 use std::alloc::AllocError;
 
 // The operation that an infix operator stands for, if it is one.

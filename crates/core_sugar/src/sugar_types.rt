@@ -1,10 +1,9 @@
 //! What written types are made into.
 
 use crate::builder::{Builder, Made};
-use name_uses::{FUNCTION_TYPE, INT_TYPE, TUPLE_TYPE, TypeValue};
-use name_uses::Use;
 use effect_meaning::{Sequence, TypeExpression};
 use ml_syntax::Node;
+use name_uses::{FUNCTION_TYPE, INT_TYPE, TUPLE_TYPE, TypeValue, Use};
 use std::alloc::AllocError;
 
 impl<'a> Builder<'a> {

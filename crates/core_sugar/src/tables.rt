@@ -1,9 +1,9 @@
 //! The rows of the built-in types, constructors and exceptions, which stand first in the tables.
 
 use crate::builder::Builder;
-use name_uses::TUPLE_TYPE;
 use crate::places::NOWHERE;
 use effect_meaning::{ExceptionRow, Sequence, TypeExpression, TypeRow, VariantRow};
+use name_uses::TUPLE_TYPE;
 use std::alloc::AllocError;
 
 static TYPES: [(&[u8], usize); 17] = [

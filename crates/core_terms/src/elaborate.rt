@@ -26,7 +26,14 @@ fn make(
         prog,
         uses: &resolved.program,
     };
-    make_core(alloc, file, before, program, resolved.append, resolved.next_name)
+    make_core(
+        alloc,
+        file,
+        before,
+        program,
+        resolved.append,
+        resolved.next_name,
+    )
 }
 
 /// The nodes and tables of Core.

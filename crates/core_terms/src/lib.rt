@@ -4,5 +4,7 @@
 #![tactic(auto)]
 
 mod elaborate;
+#[cfg(test)]
+mod tests;
 
 pub use elaborate::elaborate_arena;

@@ -7,9 +7,9 @@ use crate::groups::Groups;
 use crate::resolve_items::Rows;
 use crate::resolver::Resolver;
 use crate::scopes::Scopes;
-use name_uses::Uses;
 use fx_base::{Place, Refusal};
 use ml_syntax::Prog;
+use name_uses::Uses;
 use std::alloc::{AllocError, Global};
 
 /// How many rows the tables have before the first item.
@@ -72,10 +72,7 @@ fn builtin_names<'a>(alloc: Global) -> Result<Known<'a>, AllocError> {
 }
 
 // What the names of the prelude stand for. Behind it its own spellings are out of scope.
-fn walk_prelude<'a>(
-    alloc: Global,
-    prelude: &'a Prog,
-) -> Result<(Known<'a>, Uses), AllocError> {
+fn walk_prelude<'a>(alloc: Global, prelude: &'a Prog) -> Result<(Known<'a>, Uses), AllocError> {
     let known = builtin_names(alloc)?;
     let (mut known, uses) = walk(alloc, known, prelude)?;
     known.scopes.end_prelude()?;

@@ -1,8 +1,8 @@
 //! The names in expressions.
 
 use crate::resolver::{Resolver, Task};
-use name_uses::Use;
 use ml_syntax::{Binding, Clause, EffectRule, NamedPart, Node};
+use name_uses::Use;
 use std::alloc::AllocError;
 
 impl<'a> Resolver<'a> {

@@ -1,12 +1,12 @@
 //! The names in items, and those that they declare.
 
 use crate::resolver::{Resolver, Task, TypeSite};
-use name_uses::{ItemUse, TypeValue};
 use effect_meaning::Constructor;
 use ml_syntax::{
     Binding, ConstructorDefinition, EffectDefinition, FieldDefinition, Item, LongName, Name,
     TypeBody, TypeDefinition,
 };
+use name_uses::{ItemUse, TypeValue};
 use std::alloc::AllocError;
 
 /// How many rows each table of declarations has.

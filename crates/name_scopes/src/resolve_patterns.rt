@@ -1,8 +1,8 @@
 //! The names in patterns: those that they bind, and those that they use.
 
 use crate::resolver::{Resolver, Task};
-use name_uses::Use;
 use ml_syntax::{NamedPart, Node};
+use name_uses::Use;
 use std::alloc::AllocError;
 
 impl<'a> Resolver<'a> {

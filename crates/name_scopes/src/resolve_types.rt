@@ -1,9 +1,9 @@
 //! The names in written types.
 
 use crate::resolver::{Resolver, Task, TypeSite};
-use name_uses::Use;
 use fx_base::Place;
 use ml_syntax::Node;
+use name_uses::Use;
 use std::alloc::AllocError;
 
 impl<'a> Resolver<'a> {

@@ -5,9 +5,9 @@
 use crate::groups::Groups;
 use crate::names::Names;
 use crate::scopes::Scopes;
-use name_uses::{TypeValue, Use, Uses, Value};
 use fx_base::Place;
 use ml_syntax::{Binding, Clause, EffectRule, LongName, Name, Node};
+use name_uses::{TypeValue, Use, Uses, Value};
 use std::alloc::{AllocError, Global};
 
 /// Something that is still to be done.

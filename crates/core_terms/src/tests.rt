@@ -272,6 +272,9 @@ const CASES: &[Case] = &[
 
 // The place of the first breach of a text.
 fn breach_of(alloc: Global, text: &str) -> Result<Option<Place>, Refusal> {
+    if text.len() > 16_777_216 {
+        return Err(Refusal::Usage);
+    }
     let tokens = lex(alloc, text.as_bytes())?;
     let prog = parse(alloc, &tokens)?;
     match elaborate_arena(alloc, &prog, "test.ml") {
