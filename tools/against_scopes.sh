@@ -4,32 +4,32 @@
 #     against_scopes.sh ORACLE WORKSPACE PROGRAMS [SEED] [COUNT]
 #
 # The workspace gets copies of the crates and of the program that writes the Core of files (tools/core_dump), so that
-# nothing of the repository is changed. PARSER names the folder of another parser than crates/ml_parser.
+# nothing of the repository is changed. ORACLE is the folder of the reference, PROGRAMS a folder of programs.
 set -e
 oracle=$1 workspace=$2 programs=$3 seed=${4:-1} count=${5:-1000}
 top=$(cd "$(dirname "$0")/.." && pwd)
-parser=${PARSER:-$top/crates/ml_parser}
 mkdir -p "$workspace/crates"
-for crate in fx_base ml_lexer ml_syntax effect_meaning name_uses name_scopes prelude_tree core_rules core_sugar core_terms; do
+for crate in fx_base ml_lexer ml_syntax ml_builder ml_moves ml_parser effect_meaning name_uses name_scopes prelude_tree core_rules core_sugar core_terms; do
   rm -rf "$workspace/crates/$crate"
   cp -r "$top/crates/$crate" "$workspace/crates/$crate"
   rm -rf "$workspace/crates/$crate/out"
 done
-rm -rf "$workspace/crates/ml_parser" "$workspace/crates/core_dump"
-cp -r "$parser" "$workspace/crates/ml_parser"
+rm -rf "$workspace/crates/core_dump"
 cp -r "$top/tools/core_dump" "$workspace/crates/core_dump"
 cat > "$workspace/crates.txt" <<'C'
 fx_base: thiserror
 ml_lexer: fx_base
 ml_syntax: fx_base ml_lexer
-ml_parser: fx_base ml_lexer ml_syntax
+ml_builder: fx_base ml_lexer ml_syntax
+ml_moves: ml_syntax ml_builder
+ml_parser: fx_base ml_lexer ml_syntax ml_builder ml_moves
 effect_meaning: fx_base
 name_uses: effect_meaning
 name_scopes: fx_base ml_syntax effect_meaning name_uses indexmap
 prelude_tree: fx_base ml_syntax
 core_rules: fx_base effect_meaning
 core_sugar: fx_base ml_lexer ml_syntax effect_meaning name_uses core_rules
-core_terms: fx_base ml_syntax effect_meaning name_scopes prelude_tree core_sugar
+core_terms: fx_base ml_lexer ml_syntax ml_parser effect_meaning name_scopes prelude_tree core_sugar
 core_dump: anyhow fx_base ml_lexer ml_syntax ml_parser effect_meaning core_terms
 C
 cd "$workspace" && [ -d .git ] || git init -q .
