@@ -16,6 +16,10 @@ for crate in fx_base ml_lexer ml_syntax ml_builder ml_moves ml_parser effect_mea
 done
 rm -rf "$workspace/crates/core_dump"
 cp -r "$top/tools/core_dump" "$workspace/crates/core_dump"
+# in the repository its sources are no sources of a crate
+for source in "$workspace"/crates/core_dump/src/*.rt.txt; do
+  mv "$source" "${source%.txt}"
+done
 cat > "$workspace/crates.txt" <<'C'
 fx_base: thiserror
 ml_lexer: fx_base
