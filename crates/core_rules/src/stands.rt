@@ -143,7 +143,7 @@ fn is_written(arena: &CoreArena, argument: Option<u32>, annotation: Option<u32>)
 fn effect_clause_stands(arena: &CoreArena, clause: &EffectClause) -> bool
     ensures { result ≡ are_met (counts arena.now) (effect_clause_needs clause.now) }
 {
-    is_there(clause.effect, arena.effect_rows().len())
+    constructor_stands(arena, clause.effect)
         && is_there(clause.body, arena.terms().len())
         && is_written(arena, clause.argument, clause.annotation)
 }
@@ -166,6 +166,7 @@ fn function_stands(arena: &CoreArena, function: &Function) -> bool
     ensures { result ≡ are_met (counts arena.now) (function_needs function.now) }
 {
     is_there(function.body, arena.terms().len())
+        && is_any_there(function.annotation, arena.types().len())
 }
 
 fn each_of_functions_stands(arena: &CoreArena, functions: &[Function]) -> bool

@@ -28,9 +28,10 @@ pub enum Made {
         parameter: u32,
         body: u32,
     },
-    /// The pattern of an effect, which stands in a pattern or in a clause of a handler.
-    Effect {
-        effect: u32,
+    /// A constructor, which stands in a pattern or in a clause of a handler.
+    Constructor {
+        place: Place,
+        constructor: Constructor,
         argument: Option<u32>,
     },
 }
@@ -267,8 +268,11 @@ impl<'a> Builder<'a> {
     pub fn pattern(&mut self, n: u32) -> Result<u32, AllocError> {
         match self.made(n) {
             Made::Pattern(pattern) => Ok(pattern),
-            Made::Effect { effect, argument } => {
-                let constructor = Constructor::Effect(effect);
+            Made::Constructor {
+                place,
+                constructor,
+                argument,
+            } => {
                 let form = match argument {
                     Some(argument) => PatternForm::Construct {
                         constructor,
@@ -276,7 +280,7 @@ impl<'a> Builder<'a> {
                     },
                     None => PatternForm::Constructor(constructor),
                 };
-                self.push_pattern(self.place(n), form)
+                self.push_pattern(place, form)
             }
             _ => Err(AllocError),
         }
@@ -287,6 +291,14 @@ impl<'a> Builder<'a> {
         match self.made(n) {
             Made::Type(node) => Ok(node),
             _ => Err(AllocError),
+        }
+    }
+
+    /// The written type of a node that there may be.
+    pub fn any_written(&self, n: Option<u32>) -> Result<Option<u32>, AllocError> {
+        match n {
+            Some(n) => Ok(Some(self.written(n)?)),
+            None => Ok(None),
         }
     }
 

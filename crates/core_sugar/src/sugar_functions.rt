@@ -194,11 +194,11 @@ impl<'a> Builder<'a> {
         else {
             return Err(AllocError);
         };
-        let made = if parameters.len() == 0 {
-            self.made(*body)
+        let (annotation, made) = if parameters.len() == 0 {
+            (self.any_written(*annotation)?, self.made(*body))
         } else {
             let body = self.annotated(*body, *annotation)?;
-            self.lambda_made(place, parameters.as_slice(), body)?
+            (None, self.lambda_made(place, parameters.as_slice(), body)?)
         };
         match made {
             Made::Function {
@@ -208,6 +208,7 @@ impl<'a> Builder<'a> {
             } => Ok(Function {
                 place,
                 name,
+                annotation,
                 parameter,
                 body,
             }),
@@ -304,6 +305,7 @@ impl<'a> Builder<'a> {
         let function = Function {
             place,
             name,
+            annotation: None,
             parameter,
             body,
         };
@@ -364,6 +366,7 @@ impl<'a> Builder<'a> {
         let function = Function {
             place,
             name,
+            annotation: None,
             parameter,
             body,
         };

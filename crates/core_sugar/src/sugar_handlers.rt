@@ -344,7 +344,12 @@ impl<'a> Builder<'a> {
         continuation: u32,
         body: u32,
     ) -> Result<EffectClause, AllocError> {
-        let Made::Effect { effect, argument } = self.made(pattern) else {
+        let Made::Constructor {
+            constructor: effect,
+            argument,
+            ..
+        } = self.made(pattern)
+        else {
             return Err(AllocError);
         };
         let (continuation, annotation) = self.continuation(continuation)?;

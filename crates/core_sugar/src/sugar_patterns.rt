@@ -1,7 +1,7 @@
 //! What patterns are made into.
 
 use crate::builder::{Builder, Made};
-use effect_meaning::{Constant, Constructor, FieldPart, PatternForm, Sequence};
+use effect_meaning::{Constant, FieldPart, PatternForm, Sequence};
 use fx_base::Place;
 use ml_lexer::{character_byte, integer_value, string_bytes};
 use ml_syntax::{Literal, LiteralKind, NamedPart, Node};
@@ -139,25 +139,19 @@ impl<'a> Builder<'a> {
     }
 
     fn construct_pattern(
-        &mut self,
+        &self,
         n: u32,
         place: Place,
         argument: Option<u32>,
     ) -> Result<Made, AllocError> {
-        let Use::Constructor(constructor) = self.meaning(n) else {
-            return Err(AllocError);
-        };
-        let form = match (constructor, argument) {
-            (Constructor::Effect(effect), argument) => {
-                return Ok(Made::Effect { effect, argument });
-            }
-            (constructor, None) => PatternForm::Constructor(constructor),
-            (constructor, Some(argument)) => PatternForm::Construct {
+        match self.meaning(n) {
+            Use::Constructor(constructor) => Ok(Made::Constructor {
+                place,
                 constructor,
                 argument,
-            },
-        };
-        Ok(Made::Pattern(self.push_pattern(place, form)?))
+            }),
+            _ => Err(AllocError),
+        }
     }
 
     fn pattern_cons(&mut self, place: Place, head: u32, tail: u32) -> Result<u32, AllocError> {

@@ -46,7 +46,7 @@ no_effect_across_a_call =
           (Fun 3 (Match (at 4 10) (Var 3) (AndClause (ConstPat UnitConst) NoGuard nothing NoClauses)))
           (Fun 4
           (Match (at 4 10) (Var 4) (AndClause (NamePat 5) NoGuard (Prim Raise (one (Var 5))) NoClauses))))
-          (AndEffect 0 None 6 None (Prim Continue (two (Var 6) nothing)) NoEffects))
+          (AndEffect (Effect 0) None 6 None (Prim Continue (two (Var 6) nothing)) NoEffects))
           ∷ [];
     }
 
@@ -177,7 +177,7 @@ fold_handles_inside =
           (Fun 5
           (Match (at 4 16) (Var 5)
           (AndClause (NamePat 6) NoGuard (Prim Raise (one (Var 6))) NoClauses))))
-          (AndEffect 0 (Some (NamePat 7)) 8 None
+          (AndEffect (Effect 0) (Some (NamePat 7)) 8 None
           (Prim Continue (two (Var 8) (Prim Mul (two (int 10) (Var 7)))))
           NoEffects))))
           ∷ Destructure (at 5 1) (ConstPat UnitConst)
@@ -224,7 +224,7 @@ fold_has_no_outer_handler =
           (AndClause (NamePat 5) NoGuard (Prim PrintInt (one (Var 5))) NoClauses)))
           (Fun 6
           (Match (at 4 10) (Var 6) (AndClause (NamePat 7) NoGuard (Prim Raise (one (Var 7))) NoClauses))))
-          (AndEffect 0 None 8 None (Prim Continue (two (Var 8) (int 100))) NoEffects))
+          (AndEffect (Effect 0) None 8 None (Prim Continue (two (Var 8) (int 100))) NoEffects))
           ∷ [];
     }
 
@@ -270,7 +270,7 @@ try_sees_unhandled =
           NoClauses))))
           (Fun 4
           (Match (at 4 10) (Var 4) (AndClause (NamePat 5) NoGuard (Prim Raise (one (Var 5))) NoClauses))))
-          (AndEffect 0 None 6 None (Prim Continue (two (Var 6) (int 1))) NoEffects))
+          (AndEffect (Effect 0) None 6 None (Prim Continue (two (Var 6) (int 1))) NoEffects))
           ∷ [];
     }
 
@@ -309,7 +309,7 @@ try_resumes_inside =
           (Fun 4
           (Match (at 4 33) (Var 4)
           (AndClause (NamePat 5) NoGuard (Prim Raise (one (Var 5))) NoClauses))))
-          (AndEffect 0 None 6 None (Prim Continue (two (Var 6) (int 8))) NoEffects))
+          (AndEffect (Effect 0) None 6 None (Prim Continue (two (Var 6) (int 8))) NoEffects))
           NoClauses)))))
           (AndClause
           (ConPat (Variant none_con))

@@ -35,7 +35,7 @@ resumed_in_another_domain =
           (Fun 2 (Match (at 5 9) (Var 2) (AndClause (NamePat 3) NoGuard (Var 3) NoClauses)))
           (Fun 4
           (Match (at 5 9) (Var 4) (AndClause (NamePat 5) NoGuard (Prim Raise (one (Var 5))) NoClauses))))
-          (AndEffect 0 None 6 None
+          (AndEffect (Effect 0) None 6 None
           (Seq (Prim RefSet (two (Var 0) (ConOf (Variant some_con) (Var 6)))) (int 0))
           NoEffects))
           ∷ Destructure (at 8 1) (ConstPat UnitConst)
@@ -95,7 +95,7 @@ one_of_two_resumes =
           (Fun 2 (Match (at 5 10) (Var 2) (AndClause (ConstPat UnitConst) NoGuard nothing NoClauses)))
           (Fun 3
           (Match (at 5 10) (Var 3) (AndClause (NamePat 4) NoGuard (Prim Raise (one (Var 4))) NoClauses))))
-          (AndEffect 0 None 5 None (Prim RefSet (two (Var 0) (ConOf (Variant some_con) (Var 5)))) NoEffects))
+          (AndEffect (Effect 0) None 5 None (Prim RefSet (two (Var 0) (ConOf (Variant some_con) (Var 5)))) NoEffects))
           ∷ Define 9
           (Fun 6
           (Match (at 8 1) (Var 6)
@@ -221,7 +221,7 @@ queue_in_order =
           (Fun 2 (Match (at 4 14) (Var 2) (AndClause (ConstPat UnitConst) NoGuard nothing NoClauses)))
           (Fun 3
           (Match (at 4 14) (Var 3) (AndClause (NamePat 4) NoGuard (Prim Raise (one (Var 4))) NoClauses))))
-          (AndEffect 0 None 5 None (Prim QueuePush (one (Var 5))) NoEffects)))
+          (AndEffect (Effect 0) None 5 None (Prim QueuePush (one (Var 5))) NoEffects)))
           ∷ Define 9
           (Fun 7
           (Match (at 7 1) (Var 7)
@@ -303,7 +303,7 @@ exit_beside_a_loop =
     record plain {
       items =
           DefineRec
-          (AndFunction 0 1
+          (AndFunction 0 None 1
           (Match (at 1 1) (Var 1) (AndClause (ConstPat UnitConst) NoGuard (App (Var 0) nothing) NoClauses))
           NoFunctions)
           ∷ Destructure (at 2 1) (ConstPat UnitConst)

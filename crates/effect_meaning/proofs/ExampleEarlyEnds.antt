@@ -1,5 +1,5 @@
 -- What the early ends say of a run, each at a small run and small sizes.
-use Rattle.std.proofs.Common.{refl, sym, subst, ◌+◌, codes, ◌≡◌, ◌<◌, ◌≤◌, ◌&&◌, arith, IsTrue, is_some, ℕ, zero, suc, nat_eq, nat_le, Bool, true, false, [], ◌∷◌, List, Option, Some, slice_get, length}
+use Rattle.std.proofs.Common.{refl, sym, subst, ◌+◌, codes, ◌≡◌, ◌<◌, ◌≤◌, ◌&&◌, arith, IsTrue, is_some, ℕ, zero, suc, nat_eq, nat_le, Bool, true, false, [], ◌∷◌, List, Option, Some, None, slice_get, length}
 use Rattle.effect_meaning.specs.Terms.{Add, AndClause, AndFunction, AnyPat, App, Array, AtomicGet, AtomicMake, AtomicSet, Boolean, CIter, Con, ConOf, ConOfPat, ConPat, Const, ConstPat, Define, DefineRec, Destructure, Fun, If, Join, Let, LetRec, Match, NamePat, NoClauses, NoFunctions, NoGuard, Prim, PrintInt, PrintString, Program, Seq, Spawn, UnitConst, Var, Variant}
 use Rattle.effect_meaning.specs.Builtins.{none_con, some_con}
 use Rattle.effect_meaning.specs.Config.{Config, Domain, Frame, Live, Operating, Parts, Return}
@@ -43,7 +43,7 @@ deepens =
     record plain {
       items =
           DefineRec
-          (AndFunction 0 1 (Prim Add (two (int 1) (App (Var 0) (Prim Add (two (Var 1) (int 1)))))) NoFunctions)
+          (AndFunction 0 None 1 (Prim Add (two (int 1) (App (Var 0) (Prim Add (two (Var 1) (int 1)))))) NoFunctions)
           ∷ Destructure (at 2 1) (ConstPat UnitConst) (Prim PrintInt (one (App (Var 0) (int 0))))
           ∷ [];
     }
@@ -75,7 +75,7 @@ calls_for_ever =
     record plain {
       items =
           DefineRec
-          (AndFunction 0 1
+          (AndFunction 0 None 1
           (Match (at 1 1) (Var 1)
           (AndClause AnyPat NoGuard (Prim CIter (two (Var 0) (Array (one (int 0))))) NoClauses))
           NoFunctions)
@@ -110,7 +110,7 @@ prints_for_ever =
       items =
           Destructure (at 1 1) (ConstPat UnitConst)
           (LetRec
-          (AndFunction 0 1
+          (AndFunction 0 None 1
           (Match (at 1 10) (Var 1)
           (AndClause (ConstPat UnitConst) NoGuard
           (If (Const (Boolean true))
@@ -148,7 +148,7 @@ two_wait =
           Define 0 (Prim AtomicMake (one (Con (Variant none_con))))
           ∷ Define 1 (Prim AtomicMake (one (Con (Variant none_con))))
           ∷ DefineRec
-          (AndFunction 2 3
+          (AndFunction 2 None 3
           (Match (at 3 17)
           (Prim AtomicGet (one (Var 3)))
           (AndClause

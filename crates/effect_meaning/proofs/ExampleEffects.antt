@@ -39,7 +39,7 @@ effect_with_argument =
           (Handle Deep
           (typed (Some 0) (Some (Applied effect_type (AndType (Variable 0) NoTypes))))
           (four (Var 1) nothing (Fun 2 (Var 2)) (Fun 3 (Prim Raise (one (Var 3)))))
-          (AndEffect 0 (Some (NamePat 4)) 5
+          (AndEffect (Effect 0) (Some (NamePat 4)) 5
           (Some (Applied deep_type (AndType (Variable 0) (AndType Any NoTypes))))
           (Prim Continue (two (Var 5) (Prim Add (two (Var 4) (int 1)))))
           NoEffects))))
@@ -100,7 +100,7 @@ unhandled_at_the_perform =
           (AndClause (NamePat 3) NoGuard (Prim PrintInt (one (Var 3))) NoClauses)))
           (Fun 4
           (Match (at 4 10) (Var 4) (AndClause (NamePat 5) NoGuard (Prim Raise (one (Var 5))) NoClauses))))
-          (AndEffect 1 None 6 None (Prim Continue (two (Var 6) nothing)) NoEffects))
+          (AndEffect (Effect 1) None 6 None (Prim Continue (two (Var 6) nothing)) NoEffects))
           ∷ [];
     }
 
@@ -134,7 +134,7 @@ resumed_twice =
           (AndClause (ConstPat UnitConst) NoGuard (Prim PrintString (one (text 0))) NoClauses)))
           (Fun 2
           (Match (at 4 10) (Var 2) (AndClause (NamePat 3) NoGuard (Prim Raise (one (Var 3))) NoClauses))))
-          (AndEffect 0 None 4 None
+          (AndEffect (Effect 0) None 4 None
           (Seq
           (Prim Continue (two (Var 4) nothing))
           (Catch (at 8 6)
@@ -181,7 +181,7 @@ discontinue_raises_inside =
           (Fun 4
           (Match (at 4 21) (Var 4)
           (AndClause (NamePat 5) NoGuard (Prim Raise (one (Var 5))) NoClauses))))
-          (AndEffect 0 None 6 None (Prim Discontinue (two (Var 6) (Con (Exception not_found)))) NoEffects))))
+          (AndEffect (Effect 0) None 6 None (Prim Discontinue (two (Var 6) (Con (Exception not_found)))) NoEffects))))
           ∷ [];
     }
 
@@ -221,13 +221,13 @@ effect_passes_a_handler =
           (Fun 4
           (Match (at 5 10) (Var 4)
           (AndClause (NamePat 5) NoGuard (Prim Raise (one (Var 5))) NoClauses))))
-          (AndEffect 0 None 6 None (Prim Continue (two (Var 6) (int 1))) NoEffects)))
+          (AndEffect (Effect 0) None 6 None (Prim Continue (two (Var 6) (int 1))) NoEffects)))
           nothing
           (Fun 7 (Match (at 5 3) (Var 7) (AndClause (NamePat 8) NoGuard (Var 8) NoClauses)))
           (Fun 9
           (Match (at 5 3) (Var 9)
           (AndClause (NamePat 10) NoGuard (Prim Raise (one (Var 10))) NoClauses))))
-          (AndEffect 1 None 11 None (Prim Continue (two (Var 11) (int 4))) NoEffects))))
+          (AndEffect (Effect 1) None 11 None (Prim Continue (two (Var 11) (int 4))) NoEffects))))
           ∷ [];
     }
 
@@ -267,7 +267,7 @@ clause_outside_its_handler =
           (AndClause (NamePat 3) NoGuard (Prim PrintInt (one (Var 3))) NoClauses)))
           (Fun 4
           (Match (at 6 5) (Var 4) (AndClause (NamePat 5) NoGuard (Prim Raise (one (Var 5))) NoClauses))))
-          (AndEffect 0 None 6 None
+          (AndEffect (Effect 0) None 6 None
           (Seq (Prim PrintInt (one (int 2))) (Prim Raise (one (Con (Exception not_found)))))
           NoEffects))
           (AndClause (NamePat 7) NoGuard (Var 7) NoClauses)
@@ -306,7 +306,7 @@ raised_through_a_handler =
           (Catch (at 6 3)
           (Handle Deep (typed (Some 0) None)
           (four (Var 1) nothing (Fun 2 (Var 2)) (Fun 3 (Prim Raise (one (Var 3)))))
-          (AndEffect 0 None 4 None (Prim Continue (two (Var 4) (int 1))) NoEffects))
+          (AndEffect (Effect 0) None 4 None (Prim Continue (two (Var 4) (int 1))) NoEffects))
           (AndClause (NamePat 5) NoGuard (Var 5) NoClauses)
           (AndClause
           (ConPat (Exception exit_exception))
@@ -354,7 +354,7 @@ no_exception_clause_matches =
           NoGuard
           (Prim PrintString (one (text 1)))
           (AndClause (NamePat 4) NoGuard (Prim Raise (one (Var 4))) NoClauses)))))
-          (AndEffect 0 None 5 None (Prim Continue (two (Var 5) (int 1))) NoEffects))
+          (AndEffect (Effect 0) None 5 None (Prim Continue (two (Var 5) (int 1))) NoEffects))
           (AndClause (NamePat 6) NoGuard (Var 6) NoClauses)
           (AndClause
           (ConOfPat (Exception failure) (NamePat 7))
@@ -398,7 +398,7 @@ argument_pattern_goes_on =
           (Fun 4
           (Match (at 5 10) (Var 4)
           (AndClause (NamePat 5) NoGuard (Prim Raise (one (Var 5))) NoClauses))))
-          (AndEffect 0
+          (AndEffect (Effect 0)
           (Some (ConstPat (Integer (pos 2))))
           6
           None
@@ -409,7 +409,7 @@ argument_pattern_goes_on =
           (Fun 9
           (Match (at 5 3) (Var 9)
           (AndClause (NamePat 10) NoGuard (Prim Raise (one (Var 10))) NoClauses))))
-          (AndEffect 0 (Some (NamePat 11)) 12 None
+          (AndEffect (Effect 0) (Some (NamePat 11)) 12 None
           (Prim Continue (two (Var 12) (Prim Mul (two (Var 11) (Var 11)))))
           NoEffects))))
           ∷ [];
@@ -448,7 +448,7 @@ round_robin =
       declarations = 1;
       items =
           DefineRec
-          (AndFunction 0 1
+          (AndFunction 0 None 1
           (Fun 2
           (Match (at 3 29) (Var 2)
           (AndClause
@@ -477,7 +477,7 @@ round_robin =
           (SetField 2 (Var 10) (Prim Add (two (Field 2 (Var 10)) (int 1)))))))
           ∷ Define 13 (Fun 12 (Prim (Compare Equals) (two (Field 2 (Var 12)) (int 0))))
           ∷ DefineRec
-          (AndFunction 14 15
+          (AndFunction 14 None 15
           (Match (at 15 23) (Field 0 (Var 15))
           (AndClause
           (ConOfPat (Variant cons_con)
@@ -517,7 +517,7 @@ round_robin =
           (If (App (Var 13) (Var 19)) nothing (App (App (Var 14) (Var 19)) nothing))
           NoClauses)))
           (LetRec
-          (AndFunction 25 26
+          (AndFunction 25 None 26
           (Handle Deep untyped
           (four
           (Fun 27 (App (Var 26) nothing))
@@ -528,9 +528,9 @@ round_robin =
           (Fun 29
           (Match (at 9 5) (Var 29)
           (AndClause (NamePat 30) NoGuard (Prim Raise (one (Var 30))) NoClauses))))
-          (AndEffect 0 None 31 None
+          (AndEffect (Effect 0) None 31 None
           (Seq (App (Var 22) (Var 31)) (App (Var 24) nothing))
-          (AndEffect 1 (Some (NamePat 32)) 33 None
+          (AndEffect (Effect 1) (Some (NamePat 32)) 33 None
           (Seq (App (Var 22) (Var 33)) (App (Var 25) (Var 32)))
           NoEffects)))
           NoFunctions)
@@ -546,7 +546,7 @@ round_robin =
           (Prim (Compare Above) (two (Var 37) (Var 38)))
           nothing
           (LetRec
-          (AndFunction 39 40
+          (AndFunction 39 None 40
           (Seq
           (Seq
           (Prim PrintString (one (Var 35)))

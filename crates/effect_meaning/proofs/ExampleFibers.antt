@@ -32,18 +32,18 @@ handlers_take_turns =
       declarations = 1;
       items =
           DefineRec
-          (AndFunction 0 2
+          (AndFunction 0 None 2
           (Fun 3
           (Handle ShallowContinue
           (typed (Some 0) (Some (Applied effect_type (AndType (Variable 0) NoTypes))))
           (four (Var 2) (Var 3)
           (Fun 4 (Match (at 5 13) (Var 4) (AndClause (ConstPat UnitConst) NoGuard nothing NoClauses)))
           (Fun 5 (Prim Raise (one (Var 5)))))
-          (AndEffect 0 None 6
+          (AndEffect (Effect 0) None 6
           (Some (Applied shallow_type (AndType (Variable 0) (AndType Any NoTypes))))
           (App (App (Var 1) (Var 6)) (Prim Add (two (Var 3) (int 1))))
           NoEffects)))
-          (AndFunction 1 7
+          (AndFunction 1 None 7
           (Fun 8
           (Handle ShallowContinue
           (typed (Some 1) (Some (Applied effect_type (AndType (Variable 1) NoTypes))))
@@ -51,7 +51,7 @@ handlers_take_turns =
           (Fun 9
           (Match (at 10 13) (Var 9) (AndClause (ConstPat UnitConst) NoGuard nothing NoClauses)))
           (Fun 10 (Prim Raise (one (Var 10)))))
-          (AndEffect 0 None 11
+          (AndEffect (Effect 0) None 11
           (Some (Applied shallow_type (AndType (Variable 1) (AndType Any NoTypes))))
           (App (App (Var 0) (Var 11)) (Prim Add (two (Var 8) (int 1))))
           NoEffects)))
@@ -102,7 +102,7 @@ shallow_handler_is_gone =
           (Fun 6
           (Handle ShallowContinue (typed (Some 1) None)
           (four (Var 5) (Var 6) (Fun 7 (Var 7)) (Fun 8 (Prim Raise (one (Var 8)))))
-          (AndEffect 0 None 9 None (App (App (Var 4) (Var 9)) (int 5)) NoEffects))))
+          (AndEffect (Effect 0) None 9 None (App (App (Var 4) (Var 9)) (int 5)) NoEffects))))
           ∷ Destructure (at 8 1) (ConstPat UnitConst)
           (Prim PrintInt
           (one

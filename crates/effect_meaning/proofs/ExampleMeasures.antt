@@ -71,7 +71,7 @@ asks =
           (Fun 4
           (Match (at 4 21) (Var 4)
           (AndClause (NamePat 5) NoGuard (Prim Raise (one (Var 5))) NoClauses))))
-          (AndEffect 0 None 6 None answer NoEffects))))
+          (AndEffect (Effect 0) None 6 None answer NoEffects))))
           ∷ [];
     }
 

@@ -6,10 +6,10 @@ use Rattle.effect_meaning.specs.Builtins.{match_failure}
 use Rattle.effect_meaning.specs.Numbers.{divides, on_number, on_numbers}
 use Rattle.effect_meaning.specs.Config.{AppliesTo, Applying, Arraying, At, Bare, Block, Branch, Catching, Closure, Config, Constructing, Continuation, Cut, Data, Defines, Destructures, Doing, Domain, DomainOf, Done, End, Eval, Evaluates, Fielding, Folds, Foot, ForClause, ForEffect, ForItem, Frame, Gave, GivesTo, Goal, Guarding, Handler, Handling, Heap, Items, Iterates, Keep, LetIn, Live, Look, LookIn, Matching, Names, NoMatch, Num, Operating, Otherwise, Parts, RaiseAgain, Raised, Raising, Recording, Return, Root, Running, Scope, Searching, Segment, Setting, Shape, Stores, Testing, Then, Todo, Tries, Tupling, Value}
 use Rattle.effect_meaning.specs.StaticTexts.{file_text}
-use Rattle.effect_meaning.specs.Focus.{Focus, applies, block_at, carried, carrier, enters, given, given_or, gives, lookup, number_of, opened, push, text_at, unit, values_at, values_of, with_context}
+use Rattle.effect_meaning.specs.Focus.{Focus, applies, block_at, carrier, enters, given, given_or, gives, lookup, number_of, opened, push, text_at, unit, values_at, values_of, with_context}
 use Rattle.effect_meaning.specs.Cells.{array_get, array_make_of, array_set, bumps, cell_of, exchanges, index_of, index_within, plus, reads_cell, reads_field, stored, stored_in, writes_field}
 use Rattle.effect_meaning.specs.Texts.{char_chr, compares, part_of, string_get, string_sub}
-use Rattle.effect_meaning.specs.Effects.{captured, handles, passes, resumes, resumes_block, scope_at, searches}
+use Rattle.effect_meaning.specs.Effects.{captured, effect_carried, handles, passes, resumes, resumes_block, scope_at, searches}
 use Rattle.effect_meaning.specs.Matching.{fails, fails_to_match, look_at, matched, same_value, tests, tests_node, tries, unmatched}
 use Rattle.effect_meaning.specs.Callbacks.{attempts, folds, iterates}
 use Rattle.effect_meaning.specs.Domains.{joins_block, joins_domain, lowest_free, own_slot, pushes_onto, spawns_in, takes_from, takes_of}
@@ -113,7 +113,7 @@ module _ (R : Heap → Heap → Type 0)
     searches_kept f e n NoEffects = kept_given f.config.heap (slice_get f.context n) _ (λ s. passes_kept f e n s.foot)
     searches_kept f e n (AndEffect effect argument k t body rest) =
         kept_given f.config.heap (scope_at f.context n) _ (λ sc.
-        given_or_kept f.config.heap (carried effect (block_at f.config.heap e)) _ _ (λ vs. same f.config.heap) (same f.config.heap))
+        given_or_kept f.config.heap (effect_carried effect (block_at f.config.heap e)) _ _ (λ vs. same f.config.heap) (same f.config.heap))
 
     resumes_block_kept : (f : Focus) (k : Value) (b : Option Block) (change : List Segment → List Segment) (next : Doing) → block_at f.config.heap k ≡ b → Kept f.config.heap (resumes_block f k b change next)
     resumes_block_kept f (At l) (Some (Continuation (Some ss))) change next e = emptied f.config.heap l ss e

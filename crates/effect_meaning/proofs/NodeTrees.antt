@@ -110,13 +110,15 @@ module _ (c : Counts) (ws : List Written) (qs : List Pattern) (ts us : List Term
       → effect_clauses_tree ws qs ts cs ≡ effect_clauses_tree ws qs us cs
   effect_clauses_same [] h = refl
   effect_clauses_same (k ∷ ks) h =
-      both (AndEffect k.effect (option_map (pattern_at qs) k.argument) k.continuation (option_map (type_at ws) k.annotation))
+      both (AndEffect (constructor_of k.effect) (option_map (pattern_at qs) k.argument) k.continuation (option_map (type_at ws) k.annotation))
       (terms k.body h.1.0)
       (effect_clauses_same ks (met_right c (if_any APattern k.argument ++ if_any AType k.annotation) (flat_map effect_clause_needs ks) h.1.1))
 
-  pub functions_same : (fs : List Function) → AllMet c (flat_map function_needs fs) → functions_tree ts fs ≡ functions_tree us fs
+  pub functions_same : (fs : List Function) → AllMet c (flat_map function_needs fs) → functions_tree ws ts fs ≡ functions_tree ws us fs
   functions_same [] h = refl
-  functions_same (f ∷ fs) h = both (AndFunction f.name f.parameter) (terms f.body h.0) (functions_same fs h.1)
+  functions_same (f ∷ fs) h =
+      both (AndFunction f.name (option_map (type_at ws) f.annotation) f.parameter) (terms f.body h.0)
+      (functions_same fs (met_right c (if_any AType f.annotation) (flat_map function_needs fs) h.1))
 
   pub term_tree_same : (at : Place) (a : TermForm) → AllMet c (term_needs a) → term_tree ws qs at ts a ≡ term_tree ws qs at us a
   term_tree_same at (term.Name x) h = refl

@@ -17,7 +17,7 @@ use Rattle.effect_meaning.specs.declared.core_nodes.TypeExpression.{TypeExpressi
 use Rattle.effect_meaning.specs.declared.core_nodes.PatternNode.{PatternNode}
 use Rattle.effect_meaning.specs.declared.core_nodes.TermNode.{TermNode}
 use Rattle.effect_meaning.proofs.NodeTrees.{both, functions_same}
-use Rattle.effect_meaning.proofs.TreesStay.{with_one_type, with_one_pattern, with_one_term, type_kept, pattern_kept, term_kept, patterns_of-type, terms_of-type, terms_of-pattern}
+use Rattle.effect_meaning.proofs.TreesStay.{functions_stay, with_one_type, with_one_pattern, with_one_term, type_kept, pattern_kept, term_kept, patterns_of-type, terms_of-type, terms_of-pattern}
 
 &&-true : (b : Bool) → b && true ≡ true && b
 &&-true true = refl
@@ -168,14 +168,16 @@ module _ (p q : Parts) (arena : IsArena p) (agrees : Agrees p q) where
   declares_same (item.Evaluate a) s k = refl
 
   tree_same : (at : Place) (f : ItemForm) → AllMet (counts p) (item_needs f)
-      → item_tree (patterns_of p) (terms_of p) at f ≡ item_tree (patterns_of q) (terms_of q) at f
+      → item_tree (types_of p) (patterns_of p) (terms_of p) at f ≡ item_tree (types_of q) (patterns_of q) (terms_of q) at f
   tree_same at (item.Types ts) h = refl
   tree_same at (item.Exception e) h = refl
   tree_same at (item.Effects extended es) h = refl
   tree_same at (item.Define x a) h = ap (λ t. Some (Define x t)) (agrees.terms a h.0)
   tree_same at (item.Destructure x a) h = both (λ r t. Some (Destructure at r t)) (agrees.patterns x h.0) (agrees.terms a h.1.0)
   tree_same at (item.DefineRec functions) h =
-      ap (λ fs. Some (DefineRec fs)) (functions_same (counts p) (types_of p) (patterns_of p) (terms_of p) (terms_of q) agrees.terms functions h)
+      ap (λ fs. Some (DefineRec fs))
+      (functions_same (counts p) (types_of p) (patterns_of p) (terms_of p) (terms_of q) agrees.terms functions h
+      ∙ functions_stay (counts p) (types_of p) (types_of q) agrees.types (terms_of q) functions h)
   tree_same at (item.Evaluate a) h = ap (λ t. Some (Evaluate t)) (agrees.terms a h.0)
 
   item_same : (s : Scope) (i : ItemOf) → ItemStands (counts p) i → FormSettled p q i.form → item_scoped p s i ≡ item_scoped q s i

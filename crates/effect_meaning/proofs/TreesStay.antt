@@ -1,15 +1,16 @@
 -- The trees of earlier nodes stay as they are when an arena grows.
 use Rattle.std.proofs.Common.{◌≡◌, refl, sym, subst, ap, ◌∙◌, ℕ, suc, ◌+◌, ◌<◌, List, [], ◌∷◌, ◌++◌, flat_map, length, slice_index_or, Option, Some, None, option_map, arith, length-append}
 use Rattle.std.proofs.lemmas.List.{get_or_append_left}
-use Rattle.effect_meaning.specs.Terms.{Written, Pattern, AnnotPat, Term, Match, Catch, Handle, Annot, AndClause, AndEffect, Place}
-use Rattle.effect_meaning.specs.Arena.{Parts, Counts, counts, Need, AType, APattern, ATerm, AllMet, EachStands, patterns_below, terms_below, IsArena, pattern_needs, term_needs, clause_needs, effect_clause_needs, if_any}
-use Rattle.effect_meaning.specs.ArenaTrees.{trees, type_at, pattern_at, term_at, terms_at, type_tree, pattern_tree, term_tree, clauses_tree, effect_clauses_tree, guard_tree, handler_types, kind_of, types_of, patterns_of, terms_of, place_of}
+use Rattle.effect_meaning.specs.Terms.{Written, Pattern, AnnotPat, Term, LetRec, Match, Catch, Handle, Annot, AndFunction, AndClause, AndEffect, Place}
+use Rattle.effect_meaning.specs.Arena.{Parts, Counts, counts, Need, AType, APattern, ATerm, AllMet, EachStands, patterns_below, terms_below, IsArena, pattern_needs, term_needs, clause_needs, effect_clause_needs, function_needs, if_any}
+use Rattle.effect_meaning.specs.ArenaTrees.{trees, type_at, pattern_at, term_at, terms_at, type_tree, pattern_tree, term_tree, clauses_tree, effect_clauses_tree, functions_tree, constructor_of, guard_tree, handler_types, kind_of, types_of, patterns_of, terms_of, place_of}
 use Rattle.effect_meaning.specs.declared.core_nodes.TypeExpression.{TypeExpression}
 use Rattle.effect_meaning.specs.declared.core_nodes.PatternNode.{PatternNode}
 use Rattle.effect_meaning.specs.declared.core_nodes.PatternForm.{PatternForm}
 use Rattle.effect_meaning.specs.declared.core_nodes.PatternForm.TheVariants as pattern
 use Rattle.effect_meaning.specs.declared.core_nodes.Clause.{Clause}
 use Rattle.effect_meaning.specs.declared.core_nodes.EffectClause.{EffectClause}
+use Rattle.effect_meaning.specs.declared.core_nodes.Function.{Function}
 use Rattle.effect_meaning.specs.declared.core_nodes.TermNode.{TermNode}
 use Rattle.effect_meaning.specs.declared.core_nodes.TermForm.{TermForm}
 use Rattle.effect_meaning.specs.declared.core_nodes.TermForm.TheVariants as term
@@ -66,6 +67,19 @@ module _ (c : Counts) (ws vs : List Written) (types : (t : ℕ) → t < c.types 
   pattern_stays qs (pattern.Alias q x) h = refl
   pattern_stays qs (pattern.Annotated q t) h = ap (λ w. AnnotPat (pattern_at qs q) w) (types t h.1.0)
 
+-- where the types agree that stand there, a group of functions is the same
+module _ (c : Counts) (ws vs : List Written) (types : (t : ℕ) → t < c.types → type_at ws t ≡ type_at vs t) where
+  pub functions_stay : (ts : List Term) (fs : List Function) → AllMet c (flat_map function_needs fs)
+      → functions_tree ws ts fs ≡ functions_tree vs ts fs
+  functions_stay ts [] h = refl
+  functions_stay ts (f ∷ fs) h =
+      let annotation : option_map (type_at ws) f.annotation ≡ option_map (type_at vs) f.annotation =
+      type_if_any c ws vs types f.annotation (met_left c (if_any AType f.annotation) (flat_map function_needs fs) h.1) in
+      let others : functions_tree ws ts fs ≡ functions_tree vs ts fs =
+      functions_stay ts fs (met_right c (if_any AType f.annotation) (flat_map function_needs fs) h.1) in
+      ap (λ t. AndFunction f.name t f.parameter (term_at ts f.body) (functions_tree ws ts fs)) annotation
+      ∙ ap (AndFunction f.name (option_map (type_at vs) f.annotation) f.parameter (term_at ts f.body)) others
+
 -- where the types and the patterns agree that stand there, a term is the same
 module _ (c : Counts) (ws vs : List Written) (types : (t : ℕ) → t < c.types → type_at ws t ≡ type_at vs t)
     (qs rs : List Pattern) (patterns : (q : ℕ) → q < c.patterns → pattern_at qs q ≡ pattern_at rs q) where
@@ -92,9 +106,9 @@ module _ (c : Counts) (ws vs : List Written) (types : (t : ℕ) → t < c.types 
       type_if_any c ws vs types k.annotation (met_right c (if_any APattern k.argument) (if_any AType k.annotation) both) in
       let others : effect_clauses_tree ws qs ts ks ≡ effect_clauses_tree vs rs ts ks =
       effect_clauses_stay ts ks (met_right c (if_any APattern k.argument ++ if_any AType k.annotation) (flat_map effect_clause_needs ks) h.1.1) in
-      ap (λ a. AndEffect k.effect a k.continuation (option_map (type_at ws) k.annotation) (term_at ts k.body) (effect_clauses_tree ws qs ts ks)) argument
-      ∙ ap (λ t. AndEffect k.effect (option_map (pattern_at rs) k.argument) k.continuation t (term_at ts k.body) (effect_clauses_tree ws qs ts ks)) annotation
-      ∙ ap (AndEffect k.effect (option_map (pattern_at rs) k.argument) k.continuation (option_map (type_at vs) k.annotation) (term_at ts k.body)) others
+      ap (λ a. AndEffect (constructor_of k.effect) a k.continuation (option_map (type_at ws) k.annotation) (term_at ts k.body) (effect_clauses_tree ws qs ts ks)) argument
+      ∙ ap (λ t. AndEffect (constructor_of k.effect) (option_map (pattern_at rs) k.argument) k.continuation t (term_at ts k.body) (effect_clauses_tree ws qs ts ks)) annotation
+      ∙ ap (AndEffect (constructor_of k.effect) (option_map (pattern_at rs) k.argument) k.continuation (option_map (type_at vs) k.annotation) (term_at ts k.body)) others
 
   pub term_stays : (at : Place) (ts : List Term) (a : TermForm) → AllMet c (term_needs a) → term_tree ws qs at ts a ≡ term_tree vs rs at ts a
   term_stays at ts (term.Name x) h = refl
@@ -102,7 +116,7 @@ module _ (c : Counts) (ws vs : List Written) (types : (t : ℕ) → t < c.types 
   term_stays at ts (term.Function x body) h = refl
   term_stays at ts (term.Apply f a) h = refl
   term_stays at ts (term.Let x a body) h = refl
-  term_stays at ts (term.LetRec functions body) h = refl
+  term_stays at ts (term.LetRec functions body) h = ap (λ fs. LetRec fs (term_at ts body)) (functions_stay c ws vs types ts functions h.1)
   term_stays at ts (term.Sequence a b) h = refl
   term_stays at ts (term.If k a b) h = refl
   term_stays at ts (term.Match a clauses) h = ap (Match at (term_at ts a)) (clauses_stay ts clauses h.1)

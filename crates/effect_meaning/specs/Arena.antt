@@ -149,10 +149,10 @@ abbrev pub clause_needs : Clause → List Need
 clause_needs c = APattern c.pattern ∷ ATerm c.body ∷ if_any ATerm c.guard
 
 abbrev pub effect_clause_needs : EffectClause → List Need
-effect_clause_needs c = AnEffectRow c.effect ∷ ATerm c.body ∷ if_any APattern c.argument ++ if_any AType c.annotation
+effect_clause_needs c = constructor_need c.effect ∷ ATerm c.body ∷ if_any APattern c.argument ++ if_any AType c.annotation
 
 abbrev pub function_needs : Function → List Need
-function_needs f = ATerm f.body ∷ []
+function_needs f = ATerm f.body ∷ if_any AType f.annotation
 
 abbrev pub term_needs : TermForm → List Need
 term_needs (term.Name x) = []

@@ -192,15 +192,16 @@ clauses_tree qs ts (c ∷ cs) =
 abbrev pub effect_clauses_tree : List Written → List Pattern → List Term → List EffectClause → EffectClauses
 effect_clauses_tree ws qs ts [] = NoEffects
 effect_clauses_tree ws qs ts (c ∷ cs) =
-    AndEffect c.effect (option_map (pattern_at qs) c.argument) c.continuation (option_map (type_at ws) c.annotation)
+    AndEffect (constructor_of c.effect) (option_map (pattern_at qs) c.argument) c.continuation (option_map (type_at ws) c.annotation)
     (term_at ts c.body) (effect_clauses_tree ws qs ts cs)
 
 abbrev pub handler_types : List Written → HandlerTypesOf → HandlerTypes
 handler_types ws h = record { variable = h.variable; effect = option_map (type_at ws) h.effect }
 
-abbrev pub functions_tree : List Term → List Function → Functions
-functions_tree ts [] = NoFunctions
-functions_tree ts (f ∷ fs) = AndFunction f.name f.parameter (term_at ts f.body) (functions_tree ts fs)
+abbrev pub functions_tree : List Written → List Term → List Function → Functions
+functions_tree ws ts [] = NoFunctions
+functions_tree ws ts (f ∷ fs) =
+    AndFunction f.name (option_map (type_at ws) f.annotation) f.parameter (term_at ts f.body) (functions_tree ws ts fs)
 
 -- the tree of a term at a place, from the types and patterns and the terms before it
 abbrev pub term_tree : List Written → List Pattern → Place → List Term → TermForm → Term
@@ -209,7 +210,7 @@ term_tree ws qs at ts (term.Constant c) = Const (constant_of c)
 term_tree ws qs at ts (term.Function x body) = Fun x (term_at ts body)
 term_tree ws qs at ts (term.Apply f a) = App (term_at ts f) (term_at ts a)
 term_tree ws qs at ts (term.Let x a body) = Let x (term_at ts a) (term_at ts body)
-term_tree ws qs at ts (term.LetRec functions body) = LetRec (functions_tree ts functions) (term_at ts body)
+term_tree ws qs at ts (term.LetRec functions body) = LetRec (functions_tree ws ts functions) (term_at ts body)
 term_tree ws qs at ts (term.Sequence a b) = Seq (term_at ts a) (term_at ts b)
 term_tree ws qs at ts (term.If c a b) = If (term_at ts c) (term_at ts a) (term_at ts b)
 term_tree ws qs at ts (term.Match a clauses) = Match at (term_at ts a) (clauses_tree qs ts clauses)
@@ -272,15 +273,15 @@ exception_row ws r = record { name = r.name; argument = option_map (type_at ws) 
 abbrev pub effect_row : List Written → EffectRowOf → EffectRow
 effect_row ws r = record { argument = option_map (type_at ws) r.argument; result = type_at ws r.result }
 
--- the tree of a value item
-abbrev pub item_tree : List Pattern → List Term → Place → ItemForm → Option Item
-item_tree qs ts at (item.Types rows) = None
-item_tree qs ts at (item.Exception row) = None
-item_tree qs ts at (item.Effects extended rows) = None
-item_tree qs ts at (item.Define x a) = Some (Define x (term_at ts a))
-item_tree qs ts at (item.Destructure q a) = Some (Destructure at (pattern_at qs q) (term_at ts a))
-item_tree qs ts at (item.DefineRec functions) = Some (DefineRec (functions_tree ts functions))
-item_tree qs ts at (item.Evaluate a) = Some (Evaluate (term_at ts a))
+-- the tree of a value item, from the types, the patterns and the terms
+abbrev pub item_tree : List Written → List Pattern → List Term → Place → ItemForm → Option Item
+item_tree ws qs ts at (item.Types rows) = None
+item_tree ws qs ts at (item.Exception row) = None
+item_tree ws qs ts at (item.Effects extended rows) = None
+item_tree ws qs ts at (item.Define x a) = Some (Define x (term_at ts a))
+item_tree ws qs ts at (item.Destructure q a) = Some (Destructure at (pattern_at qs q) (term_at ts a))
+item_tree ws qs ts at (item.DefineRec functions) = Some (DefineRec (functions_tree ws ts functions))
+item_tree ws qs ts at (item.Evaluate a) = Some (Evaluate (term_at ts a))
 
 -- the items that declare types, exceptions or effects
 abbrev pub declares : ItemOf → Bool
@@ -303,5 +304,5 @@ program p = record {
   effects = map (effect_row (types_of p)) p.effect_rows;
   extended = filter_map (λ i. extended_by i.form) p.items;
   declarations = count_by declares p.items;
-  items = filter_map (λ i. item_tree (patterns_of p) (terms_of p) (place_of i.place) i.form) p.items;
+  items = filter_map (λ i. item_tree (types_of p) (patterns_of p) (terms_of p) (place_of i.place) i.form) p.items;
 }

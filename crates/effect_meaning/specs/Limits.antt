@@ -37,7 +37,7 @@ abbrev mutual
   -- those of a let rec group
   pub function_owners : Functions → List Owner
   function_owners NoFunctions = []
-  function_owners (AndFunction g x body rest) = OfFunction x body ∷ owners body ++ function_owners rest
+  function_owners (AndFunction g type x body rest) = OfFunction x body ∷ owners body ++ function_owners rest
 
   -- those of clauses
   pub clause_owners : Clauses → List Owner

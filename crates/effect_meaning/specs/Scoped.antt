@@ -163,7 +163,7 @@ annotation_known s (Some w) = type_known s w
 -- the names of a group of functions
 abbrev pub function_names : Functions → List ℕ
 function_names NoFunctions = []
-function_names (AndFunction f x body fs) = f ∷ function_names fs
+function_names (AndFunction f type x body fs) = f ∷ function_names fs
 
 -- each name, constructor, field and type of a term is used within its scope, and each name that it binds is new
 abbrev mutual
@@ -200,8 +200,8 @@ abbrev mutual
   -- the functions of a group whose names are in scope
   pub functions_scoped : Scope → Functions → Bool
   functions_scoped s NoFunctions = true
-  functions_scoped s (AndFunction f x body fs) =
-      is_new s x && term_scoped (with_names (x ∷ []) s) body && functions_scoped s fs
+  functions_scoped s (AndFunction f type x body fs) =
+      annotation_known s type && is_new s x && term_scoped (with_names (x ∷ []) s) body && functions_scoped s fs
 
   pub clauses_scoped : Scope → Clauses → Bool
   clauses_scoped s NoClauses = true
@@ -217,7 +217,7 @@ abbrev mutual
   pub effect_clauses_scoped : Scope → EffectClauses → Bool
   effect_clauses_scoped s NoEffects = true
   effect_clauses_scoped s (AndEffect e argument k type body cs) =
-      holds s.effects e && argument_known s argument && annotation_known s type && are_new s (argument_names argument ++ k ∷ [])
+      constructor_known s e && argument_known s argument && annotation_known s type && are_new s (argument_names argument ++ k ∷ [])
       && term_scoped (with_names (argument_names argument ++ k ∷ []) s) body && effect_clauses_scoped s cs
 
 -- a value item, and the names that it defines
@@ -319,7 +319,7 @@ if_value other test None = other
 if_value other test (Some i) = test i
 
 abbrev pub value_of : Parts → ItemOf → Option Item
-value_of p i = item_tree (patterns_of p) (terms_of p) (place_of i.place) i.form
+value_of p i = item_tree (types_of p) (patterns_of p) (terms_of p) (place_of i.place) i.form
 
 -- an item uses what is in scope, and what it declares is new
 abbrev pub form_scoped : Parts → Scope → ItemForm → Bool

@@ -44,7 +44,7 @@ argument_names (Some q) = pattern_names q
 -- the names of a let rec group
 abbrev pub function_names : Functions → List ℕ
 function_names NoFunctions = []
-function_names (AndFunction g x body rest) = g ∷ function_names rest
+function_names (AndFunction g type x body rest) = g ∷ function_names rest
 
 -- the top-level names
 abbrev pub tops : List Item → List ℕ
@@ -86,7 +86,7 @@ abbrev mutual
   -- those of the functions of a group, with the names of the group
   pub functions_free : Functions → List ℕ
   functions_free NoFunctions = []
-  functions_free (AndFunction g x body rest) = union (without (x ∷ []) (free body)) (functions_free rest)
+  functions_free (AndFunction g type x body rest) = union (without (x ∷ []) (free body)) (functions_free rest)
 
   -- those of clauses
   pub clauses_free : Clauses → List ℕ
@@ -121,7 +121,7 @@ terms_count (AndTerm a ts) = terms_count ts + 1
 -- the number of functions of a group
 abbrev pub functions_count : Functions → ℕ
 functions_count NoFunctions = 0
-functions_count (AndFunction g x body rest) = functions_count rest + 1
+functions_count (AndFunction g type x body rest) = functions_count rest + 1
 
 -- the slots that a term needs within its function, inner functions and effect clauses apart
 abbrev mutual
@@ -227,7 +227,7 @@ abbrev mutual
   -- each function of a group is a term node
   pub functions_size : List ℕ → Functions → ℕ
   functions_size top NoFunctions = 0
-  functions_size top (AndFunction g x body rest) =
+  functions_size top (AndFunction g type x body rest) =
       1 + length (free_names top x body) + term_size top body + functions_size top rest
 
   -- of clauses: their patterns, guards and bodies

@@ -201,12 +201,13 @@ pub struct Clause {
     pub body: u32,
 }
 
-/// A clause of a handler: the effect, the pattern of its argument if it has one, and the name of
-/// the continuation, with its type where the text gives one.
+/// A clause of a handler: the constructor of the effect, the pattern of its argument if it has one,
+/// and the name of the continuation, with its type where the text gives one. A constructor of another
+/// sort has no type there.
 #[derive(Drop)]
 pub struct EffectClause {
     pub place: Place,
-    pub effect: u32,
+    pub effect: Constructor,
     pub argument: Option<u32>,
     pub continuation: u32,
     pub annotation: Option<u32>,
@@ -222,11 +223,12 @@ pub struct HandlerTypes {
     pub effect: Option<u32>,
 }
 
-/// A function of a `let rec`, of one parameter.
+/// A function of a `let rec`, of one parameter, with its own type where the text gives one.
 #[derive(Drop)]
 pub struct Function {
     pub place: Place,
     pub name: u32,
+    pub annotation: Option<u32>,
     pub parameter: u32,
     pub body: u32,
 }
