@@ -533,8 +533,7 @@ class Made(Writer):
         fs = []
         for _ in range(w.number()):
             place, f, x = w.place(), w.number(), w.number()
-            t = w.option() if ANNOTATED else None
-            fs.append((place, f, x, t, w.number()))
+            fs.append((place, f, x, w.option(), w.number()))
         for f in fs:
             self.say('fn', self.bind(f[1]))
         for place, f, x, t, body in fs:
@@ -659,8 +658,9 @@ class Made(Writer):
             self.type(t)
         self.all(w.numbers())
         for _ in range(w.number()):
-            e, p, k, t, b = w.number(), w.option(), w.number(), w.option(), w.number()
-            self.say('[', 'e %d' % e)
+            c = self.constructor(w)
+            p, k, t, b = w.option(), w.number(), w.option(), w.number()
+            self.say('[', c)
             if p is not None:
                 self.pattern(p)
             self.say(self.bind(k))
@@ -728,9 +728,6 @@ class Made(Writer):
             self.say('destructure', place)
             self.pattern(w.number())
             self.term(w.number())
-
-
-ANNOTATED = False
 
 
 def reference(modules, text, name):

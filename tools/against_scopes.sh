@@ -9,7 +9,7 @@ set -e
 oracle=$1 workspace=$2 programs=$3 seed=${4:-1} count=${5:-1000}
 top=$(cd "$(dirname "$0")/.." && pwd)
 mkdir -p "$workspace/crates"
-for crate in fx_base ml_lexer ml_syntax ml_builder ml_moves ml_parser effect_meaning name_uses name_scopes prelude_tree core_rules core_sugar core_terms; do
+for crate in fx_base ml_lexer ml_syntax ml_builder ml_moves ml_parser effect_meaning name_uses name_scopes prelude_tree core_rules core_check core_sugar core_terms; do
   rm -rf "$workspace/crates/$crate"
   cp -r "$top/crates/$crate" "$workspace/crates/$crate"
   rm -rf "$workspace/crates/$crate/out"
@@ -32,8 +32,9 @@ name_uses: effect_meaning
 name_scopes: fx_base ml_syntax effect_meaning name_uses indexmap
 prelude_tree: fx_base ml_syntax
 core_rules: fx_base effect_meaning
+core_check: fx_base effect_meaning indexmap
 core_sugar: fx_base ml_lexer ml_syntax effect_meaning name_uses core_rules
-core_terms: fx_base ml_lexer ml_syntax ml_parser effect_meaning name_scopes prelude_tree core_sugar
+core_terms: fx_base ml_lexer ml_syntax ml_parser effect_meaning name_scopes prelude_tree core_check core_sugar
 core_dump: anyhow fx_base ml_lexer ml_syntax ml_parser effect_meaning core_terms
 C
 cd "$workspace" && [ -d .git ] || git init -q .

@@ -1,11 +1,13 @@
-//! Texts and their breaches of the rules on names.
-//!
-//! The places are those that a reference implementation gives.
+//! Texts and their breaches of the rules on names, whose places are those that a reference
+//! implementation gives; and the prelude's table, which is the tree of its text.
 
-use crate::elaborate_arena;
+use crate::elaborate;
 use fx_base::{Place, Refusal};
 use ml_lexer::lex;
 use ml_parser::parse;
+use ml_syntax::{Prog, print};
+use prelude_ml::prelude;
+use prelude_tree::prelude_program;
 use std::alloc::Global;
 use std::test::Fail;
 
@@ -270,14 +272,19 @@ const CASES: &[Case] = &[
     },
 ];
 
-// The place of the first breach of a text.
-fn breach_of(alloc: Global, text: &str) -> Result<Option<Place>, Refusal> {
+// The program that a text is.
+fn read(alloc: Global, text: &str) -> Result<Prog, Refusal> {
     if text.len() > 16_777_216 {
         return Err(Refusal::Usage);
     }
     let tokens = lex(alloc, text.as_bytes())?;
-    let prog = parse(alloc, &tokens)?;
-    match elaborate_arena(alloc, &prog, "test.ml") {
+    parse(alloc, &tokens)
+}
+
+// The place of the first breach of a text.
+fn breach_of(alloc: Global, text: &str) -> Result<Option<Place>, Refusal> {
+    let prog = read(alloc, text)?;
+    match elaborate(alloc, &prog, "test.ml") {
         Ok(_) => Ok(None),
         Err(Refusal::Name(place)) => Ok(Some(place)),
         Err(refusal) => Err(refusal),
@@ -290,5 +297,15 @@ fn finds_the_first_breach(rt: HostRuntime) -> Result<(), Fail> {
         let expected = case.breach.map(|(line, column)| Place { line, column });
         assert_eq!(rt; breach_of(rt.alloc(), case.text)?, expected);
     }
+    Ok(())
+}
+
+#[test]
+fn keeps_the_prelude_as_the_tree_of_its_text(rt: HostRuntime) -> Result<(), Fail> {
+    let alloc = rt.alloc();
+    let (text, table) = (read(alloc, prelude())?, prelude_program(alloc)?);
+    assert_eq!(rt; table.nodes.len(), text.nodes.len());
+    assert_eq!(rt; table.items.len(), text.items.len());
+    assert_eq!(rt; print(alloc, &table)?, print(alloc, &text)?);
     Ok(())
 }

@@ -1,0 +1,9 @@
+pub mod Apart
+pub mod Counted
+pub mod DeclaredItems
+pub mod Lists
+pub mod Ordered
+pub mod Steps
+pub mod TypedEffects
+pub mod ValueItems
+pub mod Writtens
