@@ -1,0 +1,16 @@
+pub mod Scope
+pub mod BuiltinNames
+pub mod Visible
+pub mod Meanings
+pub mod Types
+pub mod Patterns
+pub mod Functions
+pub mod Matches
+pub mod Handlers
+pub mod Applications
+pub mod Expressions
+pub mod Breaches
+pub mod Declarations
+pub mod Items
+pub mod CoreOf
+pub mod Laws
