@@ -1,0 +1,14 @@
+pub mod TypeTrees
+pub mod WrittenTypes
+pub mod OperationTypes
+pub mod Contexts
+pub mod Constructors
+pub mod PatternTypes
+pub mod HandlerRules
+pub mod Typing
+pub mod Items
+pub mod Comparisons
+pub mod TextOrder
+pub mod Accepted
+pub mod Laws
+pub mod TypedParts
