@@ -24,8 +24,18 @@ let start n =
   | () -> Atomic.incr finished
   | effect Pause, k -> Fiberq.push k
 
+(* The oldest task of this domain's own queue, or else of the next one that has a task. *)
+let rec steal_from slot left =
+  if left = 0 then None
+  else
+    match Fiberq.take_from (slot mod Fiberq.slots ()) with
+    | Some task -> Some task
+    | None -> steal_from (slot + 1) (left - 1)
+
+let steal () = steal_from (Fiberq.self ()) (Fiberq.slots ())
+
 let rec serve () =
-  match Fiberq.steal () with
+  match steal () with
   | Some task -> continue task (); serve ()
   | None ->
     if Atomic.get finished < tasks then begin

@@ -1,16 +1,15 @@
 -- Lines that are instructions: the assembler gives just these.
-use Rattle.std.proofs.Common.{◌≡◌, ℕ, zero, suc, ◌+◌, ◌<◌, ◌≤◌, List, [], ◌∷◌, ◌++◌, length, Option, Some, None, IfErr, refl, ap, sym, ◌∙◌, subst, arith}
-use Rattle.std.specs.Prelude.{Bool, slice_get, map}
-use Rattle.fx_base.specs.declared.refusal.LimitKind.{LimitKind}
+use Rattle.std.proofs.Common.{◌≡◌, ℕ, zero, suc, ◌+◌, ◌≤◌, List, [], ◌∷◌, length, Some, refl, ap, sym, ◌∙◌, subst, arith}
+use Rattle.std.specs.Prelude.{slice_get}
 use Rattle.fx_base.specs.declared.refusal.Refusal.{Refusal}
-use Rattle.fx_base.specs.declared.refusal.Refusal.TheVariants.{Usage, File, Syntax, Name, IllTyped, Limit, Memory}
+use Rattle.fx_base.specs.declared.refusal.Refusal.TheVariants.{Usage, File, Syntax, Name, IllTyped, Limit, Later, Memory}
 use Rattle.rv_model.specs.declared.instr.Instr.{Instr}
 use Rattle.rv_model.specs.declared.line.Line.{Line}
 use Rattle.rv_model.specs.declared.line.Line.TheVariants.{Label, Plain}
-use Rattle.rv_model.specs.Table.{IsWellFormed, AreWellFormed}
+use Rattle.rv_model.specs.Table.{AreWellFormed}
 use Rattle.rv_asm.specs.declared.assembled.LabelPlace.{LabelPlace}
 use Rattle.rv_asm.specs.Lines.{IsLine, AreLines}
-use Rattle.rv_asm.specs.Layout.{Layout, count_from, code_from, place_of, Assembles, IsRefused, Takes}
+use Rattle.rv_asm.specs.Layout.{Layout, count_from, code_from, place_of, Assembles, IsRefused}
 use Rattle.effects_top.specs.Compiled.{lines_of}
 
 -- a line of such code is an instruction of it
@@ -59,3 +58,4 @@ plain_refused code File few is = absurd is
 plain_refused code (Syntax place) few is = absurd is
 plain_refused code (Name place) few is = absurd is
 plain_refused code (IllTyped place) few is = absurd is
+plain_refused code (Later place) few is = absurd is

@@ -12,7 +12,7 @@ use Rattle.effects_top.proofs.Fitting.{whole_short}
 use Rattle.effects_top.proofs.Instructions.{HasAt, has_all, has_front, has_back, Good}
 use Rattle.effects_top.proofs.Blocks.{run_block, branch_taken}
 use Rattle.effects_top.proofs.Values.{Loaded, constant_value}
-use Rattle.effects_top.proofs.Stacking.{IsFresh, fresh_same, code_of, code_is, parts_of, parts_some, parts_length, code_few, expression_good}
+use Rattle.effects_top.proofs.Stacking.{IsFresh, fresh_same, code_of, code_is, parts_of, parts_length, code_few, expression_good}
 use Rattle.effects_top.proofs.Ending.{Ok, Over, fresh_ok}
 use Rattle.effects_top.proofs.Printing.{print_good}
 

@@ -1,7 +1,7 @@
 -- Readings of command words, by computation.
-use Rattle.std.proofs.Common.{◌≡◌, ℕ, List, [], ◌∷◌, Option, Some, None, refl}
+use Rattle.std.proofs.Common.{◌≡◌, ℕ, List, [], ◌∷◌, Some, None, refl}
 use Rattle.std.specs.Prelude.{codes}
-use Rattle.effects_top.specs.Words.{Numbers, Asked, Assemble, Run, asked}
+use Rattle.effects_top.specs.Words.{Numbers, Assemble, Run, asked}
 
 usual : Numbers
 usual = record { heap = 1048576; stack = 131072; out = 1048576; budget = 1073741824; domains = 4 }

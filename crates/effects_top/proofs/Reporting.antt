@@ -1,6 +1,6 @@
 -- What the report of a run says is true of a run of the program.
-use Rattle.std.proofs.Common.{◌≡◌, ◌≢◌, ℕ, zero, suc, ◌+◌, ◌<◌, ◌≤◌, Bool, true, false, ◌||◌, not, if◌then◌else◌, List, [], ◌∷◌, Option, Some, None, map, take, length, ◌⊎◌, inl, inr, ⊎_elim, refl, ap, sym, subst, ◌∙◌, le_refl, arith}
-use Rattle.std.specs.Prelude.{slice_get, All, ◌==◌, IsTrue, IsFalse}
+use Rattle.std.proofs.Common.{◌≡◌, ◌≢◌, ℕ, suc, ◌+◌, ◌<◌, ◌≤◌, Bool, true, false, ◌||◌, not, if◌then◌else◌, List, [], ◌∷◌, Option, Some, None, take, length, ◌⊎◌, inl, inr, ⊎_elim, refl, ap, sym, subst, ◌∙◌, le_refl, arith}
+use Rattle.std.specs.Prelude.{slice_get, ◌==◌, IsTrue, IsFalse}
 use Rattle.std.specs.List.{list_any}
 use Rattle.std.proofs.Math.Seq.{take-length}
 use Rattle.std.proofs.lemmas.Bool.{eqb-true}

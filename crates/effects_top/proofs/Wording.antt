@@ -1,12 +1,12 @@
 -- What the words behind the command say, argument by argument.
-use Rattle.std.proofs.Common.{◌≡◌, ℕ, ◌<◌, Bool, true, false, List, [], ◌∷◌, Option, Some, None, length, refl, sym, ap, ◌∙◌, arith}
+use Rattle.std.proofs.Common.{◌≡◌, ℕ, ◌<◌, true, false, List, [], ◌∷◌, Option, Some, None, length, refl, sym, ap, ◌∙◌, arith}
 use Rattle.std.specs.Borrow.{Bor}
-use Rattle.std.specs.Prelude.{MatchOption, option_map, option_and_then, if◌then◌else◌}
+use Rattle.std.specs.Prelude.{MatchOption, option_map, option_and_then}
 use Rattle.std.specs.List.{position_or_len, before_first, after_first}
 use Rattle.std.proofs.lemmas.Bool.{lt-ltb, le-ltb}
 use Rattle.std.proofs.lemmas.Str.Pattern.{IsSplitOnceResult, split_once_first}
 use Rattle.effects_top.specs.declared.words.Said.{Said as SaidWords}
-use Rattle.effects_top.specs.Words.{Numbers, Asked, Assemble, Run, file_of, Said, seen_said, can_be_file, is_equals, is_joined, IsJoinedOf, with_file, with_option, with_joined, said_by}
+use Rattle.effects_top.specs.Words.{Numbers, Asked, Run, file_of, Said, seen_said, can_be_file, is_equals, is_joined, IsJoinedOf, with_file, with_option, with_joined, said_by}
 
 -- what a call said, where it said something
 pub says : (call : Option SaidWords) (after : SaidWords) (said : Option Said) → option_map seen_said call ≡ said → call ≡ Some after → said ≡ Some (seen_said after)
@@ -53,13 +53,10 @@ after_option front seen word text number name words s option same same' named nu
     said_option word text words s (rw same at apart) (rw same' at alone)
     ∙ ap (option_and_then (said_by words)) (rw (named, numbered) at (sym said))
 
--- the file of a listing
-pub listing_file_is : (o : Option Asked) (file name : List ℕ) (numbers : Numbers) → Some (Assemble file numbers) ≡ o → option_map file_of o ≡ Some name → file ≡ name
-listing_file_is o file name numbers is named = let e : Some file ≡ Some name = ap (option_map file_of) is ∙ named in cc
+-- the file of a command
+pub asked_file : (o : Option Asked) (mine a : Asked) → Some mine ≡ o → o ≡ Some a → file_of mine ≡ file_of a
+asked_file o mine a is asks = let e : Some mine ≡ Some a = is ∙ asks in let same : mine ≡ a = cc in ap file_of same
 
--- the file and the turns of a run
-pub run_file_is : (o : Option Asked) (file name : List ℕ) (numbers : Numbers) (turns : ℕ) → Some (Run file numbers turns) ≡ o → option_map file_of o ≡ Some name → file ≡ name
-run_file_is o file name numbers turns is named = let e : Some file ≡ Some name = ap (option_map file_of) is ∙ named in cc
-
+-- the turns of a run
 pub run_turns_are : (o : Option Asked) (file file' : List ℕ) (numbers numbers' : Numbers) (turns turns' : ℕ) → Some (Run file numbers turns) ≡ o → o ≡ Some (Run file' numbers' turns') → turns ≡ turns'
 run_turns_are o file file' numbers numbers' turns turns' is asks = let e : Some (Run file numbers turns) ≡ Some (Run file' numbers' turns') = is ∙ asks in cc

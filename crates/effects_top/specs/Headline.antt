@@ -17,6 +17,7 @@ use Rattle.effects_top.specs.Words.{Numbers, numbers_of, file_of, asked}
 use Rattle.effects_top.specs.Outcome.{IsRefusedWith}
 use Rattle.effects_top.specs.Expression.{Expression, program_of}
 use Rattle.effects_top.specs.Form.{IsFormOf}
+use Rattle.effects_top.specs.Checked.{IsRead}
 use Rattle.effects_top.specs.Standing.{slots_of, EndsAs, Stands}
 
 -- the image stands for the program that the bytes of this file are, wherever its `let` stands
@@ -50,14 +51,14 @@ pub record Shows (file bytes : List ℕ) (image : Image) (r : Report) : Type 0 w
   pub form : IsFormOf bytes expression
   pub shows : (at : Place) → IsReportOf (program_of file at expression) image r
 
--- what became of the file that a command names, with settings of these numbers: its image stands for the program that its bytes
--- are, where they are told; a syntax fault comes only where they are of another form; each other refusal of the file has its cause
+-- what became of the file that a command names, with settings of these numbers: where its bytes are told, it passes `check` where
+-- there is an image, which stands for the program that they are; a file that can't be read and one that is too large have their
+-- statuses
 pub record Compiles (outcome : Outcome) (name : List ℕ) (numbers : Numbers) (told : Told) (opened_now : Option (List ℕ)) (taken faults faults' : ℕ) : Type 0 where
   pub opened : (opened_now ≡ None) ⊎ (opened_now ≡ Some name)
+  pub read : (bytes : List ℕ) → told ≡ Holds bytes → IfSome outcome.image (λ (i : Image). IsRead bytes)
   pub stands : (bytes : List ℕ) → told ≡ Holds bytes → IfSome outcome.image (IsImageOf name bytes)
   pub settings : IfSome outcome.image (λ (i : Image). numbers_of i.settings ≡ numbers)
-  pub form : (bytes : List ℕ) → told ≡ Holds bytes → IsRefusedWith outcome 65 → (e : Expression) → IsFormOf bytes e → ⊥
   pub usage : IsRefusedWith outcome 64 → ⊥
   pub file : IsRefusedWith outcome 68 → Rose faults faults'
-  pub limit : IsRefusedWith outcome 67 → (opened_now ≡ Some name) × (taken ≡ 1048577)
   pub limited : opened_now ≡ Some name → taken ≡ 1048577 → IsRefusedWith outcome 67

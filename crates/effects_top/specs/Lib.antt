@@ -11,3 +11,4 @@ pub mod Source
 pub mod Spelling
 pub mod Standing
 pub mod Words
+pub mod Checked

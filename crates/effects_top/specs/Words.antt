@@ -155,14 +155,21 @@ numbers_said s =
       domains = unwrap_or s.domains 4;
     }
 
--- what the command words ask for: the listing of a file's image, or a run of a file's program in turns of so many instructions
+-- what the command words ask for: whether the text of a file is a program, the listing of a file's image, or a run of a file's program in turns of so many instructions
 pub data Asked : Type 0 where
+  Check : (file : List ℕ) → Asked
   Assemble : (file : List ℕ) (numbers : Numbers) → Asked
   Run : (file : List ℕ) (numbers : Numbers) (turns : ℕ) → Asked
 
 abbrev pub seen_command : Command → Asked
+seen_command (command.Check file) = Check file.now
 seen_command (command.Assemble file settings) = Assemble file.now (numbers_of settings)
 seen_command (command.Run file settings turns) = Run file.now (numbers_of settings) turns.count
+
+-- `check` takes a file and no options
+abbrev pub asked_check : List (List ℕ) → Option Asked
+asked_check (file ∷ []) = if can_be_file file then Some (Check file) else None
+asked_check _ = None
 
 -- `asm` takes no turns
 abbrev pub asked_listing : Said → Option Asked
@@ -175,13 +182,17 @@ asked_run s = option_map (λ file. Run file (numbers_said s) (unwrap_or s.turns 
 abbrev pub asked : List (List ℕ) → Option Asked
 asked [] = None
 asked (command ∷ words) =
-    if bytes_eq command (codes "asm") then option_and_then asked_listing (said_by words nothing)
+    if bytes_eq command (codes "check") then asked_check words
+    else if bytes_eq command (codes "asm") then option_and_then asked_listing (said_by words nothing)
     else if bytes_eq command (codes "run") then option_and_then asked_run (said_by words nothing) else None
 
 abbrev pub file_of : Asked → List ℕ
+file_of (Check file) = file
 file_of (Assemble file numbers) = file
 file_of (Run file numbers turns) = file
 
+-- the settings of a command that compiles; `check` has the usual ones
 abbrev pub numbers_asked : Asked → Numbers
+numbers_asked (Check file) = numbers_said nothing
 numbers_asked (Assemble file numbers) = numbers
 numbers_asked (Run file numbers turns) = numbers

@@ -1,6 +1,6 @@
 //! A file's program: its image, and a run of it.
 
-ghost use Rattle.std.specs.Prelude.{◌≡◌, ℕ, ◌≤◌, ◌⊎◌, ◌↔◌, List, None, Some, IfOk, IfErr, OnErr, IsErrOf};
+ghost use Rattle.std.specs.Prelude.{◌≡◌, ℕ, ◌≤◌, ◌⊎◌, ◌↔◌, List, None, Some, IfOk, IfErr, OnErr, IsErrOf, length};
 ghost use Rattle.fx_base.specs.Faults.{Rose};
 ghost use Rattle.fx_base.specs.Told.{Holds};
 ghost use Rattle.rv_model.specs.Run.{Runs};
@@ -9,8 +9,9 @@ ghost use Rattle.effects_top.specs.Form.{IsFormOf};
 ghost use Rattle.effects_top.specs.Headline.{IsImageOf, IsRunOf, Shows};
 ghost use Rattle.effects_top.specs.Source.{source_limit};
 ghost use Rattle.effects_top.specs.Output.{Wrote};
-ghost use Rattle.effects_top.specs.Outcome.{other_form, IsFileRefusal};
+ghost use Rattle.effects_top.specs.Checked.{IsRead, IsCompileBreach, IsCause, IsFileRefusal, not_yet};
 
+use crate::check::check_text;
 use crate::compile::compile;
 use crate::output::write_all;
 use crate::reader::read_form;
@@ -29,26 +30,44 @@ pub struct Ran {
     pub written: Written,
 }
 
-// The image of the program that a text is.
+// The image of the program that a text is, where it is of the form that compiles.
 fn image_of_text(alloc: Global, text: &[u8], settings: &Settings) -> Result<Image, Refusal>
     ensures stands { (file : List ℕ) → IfOk result (IsImageOf file text.now) }
     ensures runs { IfOk result (λ image. Runs image) }
     ensures settings { IfOk result (λ image. image.settings ≡ settings.now) }
-    ensures form { IfErr result (λ refusal. refusal ≡ other_form → (e : Expression) → ¬ IsFormOf text.now e) }
-    ensures others { IfErr result (λ refusal. (refusal ≡ other_form) ⊎ (refusal ≡ Refusal.Memory)) }
+    ensures form { IfErr result (λ refusal. refusal ≡ not_yet → (e : Expression) → ¬ IsFormOf text.now e) }
+    ensures others { IfErr result (λ refusal. (refusal ≡ not_yet) ⊎ (refusal ≡ Refusal.Memory)) }
 {
     let Some(postfix) = read_form(alloc, text)? else {
-        return Err(Refusal::Syntax(Place { line: 1, column: 1 }));
+        return Err(Refusal::Later(Place { line: 1, column: 1 }));
     };
     Ok(compile(alloc, &postfix, settings)?)
+}
+
+// The image of the program that a text is, which passes the check.
+fn compile_text(
+    alloc: Global,
+    text: &[u8],
+    name: &str,
+    settings: &Settings,
+) -> Result<Image, Refusal>
+    requires { length text.now ≤ 16777216 }
+    ensures read { IfOk result (λ image. IsRead text.now) }
+    ensures stands { IfOk result (IsImageOf name.now text.now) }
+    ensures runs { IfOk result (λ image. Runs image) }
+    ensures settings { IfOk result (λ image. image.settings ≡ settings.now) }
+    ensures refused { IfErr result (IsCompileBreach text.now) }
+{
+    check_text(alloc, text, name)?;
+    image_of_text(alloc, text, settings)
 }
 
 /// The image of the program that a file holds, for these settings.
 ///
 /// # Errors
 ///
-/// `File` where a read fails, `Limit` where the file has more than 1,048,576 bytes, `Syntax` at 1:1
-/// where it is of another form, and `Memory`.
+/// Those of [`check_file`](crate::check_file), and `Later` at 1:1 where the program isn't of the
+/// form that compiles so far.
 pub fn compile_file<F: Files>(
     alloc: Global,
     files: &mut F,
@@ -57,18 +76,19 @@ pub fn compile_file<F: Files>(
 ) -> Result<Image, Refusal>
     requires { F.opened files.old ≡ None }
     ensures opened { (F.opened files.new ≡ None) ⊎ (F.opened files.new ≡ Some name.now) }
+    ensures read { (bytes : List ℕ) → F.told files.old name.now ≡ Holds bytes → IfOk result (λ image. IsRead bytes) }
     ensures stands { (bytes : List ℕ) → F.told files.old name.now ≡ Holds bytes → IfOk result (IsImageOf name.now bytes) }
     ensures runs { IfOk result (λ image. Runs image) }
     ensures settings { IfOk result (λ image. image.settings ≡ settings.now) }
-    ensures form { (bytes : List ℕ) → F.told files.old name.now ≡ Holds bytes
-        → IfErr result (λ refusal. refusal ≡ other_form → (e : Expression) → ¬ IsFormOf bytes e) }
+    ensures refused { (bytes : List ℕ) → F.told files.old name.now ≡ Holds bytes
+        → IfErr result (IsCause (IsCompileBreach bytes) (F.taken files.new) (F.faults files.old) (F.faults files.new)) }
     ensures file { IsErrOf result Refusal.File → Rose (F.faults files.old) (F.faults files.new) }
     ensures limit { IsErrOf result source_limit ↔ ((F.opened files.new ≡ Some name.now) × (F.taken files.new ≡ 1048577)) }
     ensures others { IfErr result IsFileRefusal }
     ensures faults { F.faults files.old ≤ F.faults files.new }
 {
     let source = read_source(alloc, files, name)?;
-    image_of_text(alloc, &source, settings)
+    compile_text(alloc, &source, name, settings)
 }
 
 /// Runs an image in turns, and writes what it prints.
@@ -108,14 +128,15 @@ pub fn run_file<F: Files, O: Sink>(
 ) -> Result<Ran, Refusal>
     requires { F.opened files.old ≡ None }
     ensures opened { (F.opened files.new ≡ None) ⊎ (F.opened files.new ≡ Some name.now) }
+    ensures read { (bytes : List ℕ) → F.told files.old name.now ≡ Holds bytes → IfOk result (λ ran. IsRead bytes) }
     ensures stands { (bytes : List ℕ) → F.told files.old name.now ≡ Holds bytes → IfOk result (λ ran. IsImageOf name.now bytes ran.image) }
     ensures shows { (bytes : List ℕ) → F.told files.old name.now ≡ Holds bytes → IfOk result (λ ran. Shows name.now bytes ran.image ran.report) }
     ensures settings { IfOk result (λ ran. ran.image.settings ≡ settings.now) }
     ensures run { IfOk result (λ ran. IsRunOf ran.image turns.count ran.report) }
     ensures wrote { IfOk result (λ ran. Wrote (O.held out.old) (O.held out.new) (O.faults out.old) (O.faults out.new) ran.report.printed ran.written) }
     ensures unwritten { OnErr result (O.held out.new ≡ O.held out.old) }
-    ensures form { (bytes : List ℕ) → F.told files.old name.now ≡ Holds bytes
-        → IfErr result (λ refusal. refusal ≡ other_form → (e : Expression) → ¬ IsFormOf bytes e) }
+    ensures refused { (bytes : List ℕ) → F.told files.old name.now ≡ Holds bytes
+        → IfErr result (IsCause (IsCompileBreach bytes) (F.taken files.new) (F.faults files.old) (F.faults files.new)) }
     ensures file { IsErrOf result Refusal.File → Rose (F.faults files.old) (F.faults files.new) }
     ensures limit { IsErrOf result source_limit ↔ ((F.opened files.new ≡ Some name.now) × (F.taken files.new ≡ 1048577)) }
     ensures others { IfErr result IsFileRefusal }

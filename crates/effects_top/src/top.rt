@@ -6,15 +6,15 @@ ghost use Rattle.fx_base.specs.Faults.{Rose};
 ghost use Rattle.fx_base.specs.Told.{Holds};
 ghost use Rattle.rv_model.specs.Run.{Runs};
 ghost use Rattle.effects_top.specs.Words.{Numbers, Asked, file_of, numbers_of, numbers_asked, asked};
-ghost use Rattle.effects_top.specs.Words.{Assemble as AskedListing, Run as AskedRun};
-ghost use Rattle.effects_top.specs.Expression.{Expression};
-ghost use Rattle.effects_top.specs.Form.{IsFormOf};
+ghost use Rattle.effects_top.specs.Words.{Check as AskedCheck, Assemble as AskedListing, Run as AskedRun};
+ghost use Rattle.effects_top.specs.Checked.{IsRead, IsBreach, IsCompileBreach, IsCause, IsWrongFor};
 ghost use Rattle.effects_top.specs.Headline.{IsImageOf, IsRunOf, IsTold, Shows, Compiles};
 ghost use Rattle.effects_top.specs.Answers.{end_status, end_line};
 ghost use Rattle.effects_top.specs.Output.{Wrote};
-ghost use Rattle.effects_top.specs.Outcome.{IsRefusedWith, Refused, Ran, Listed, answer_status, answer_line};
+ghost use Rattle.effects_top.specs.Outcome.{IsRefusedWith, Refused, RefusedFor, Ran, Listed, Passed, answer_status, answer_line};
 
 use crate::answers::{end_status, refusal_status, tell_end, tell_refusal};
+use crate::check::check_file;
 use crate::outcome::Outcome;
 use crate::output::write_all;
 use crate::program::{compile_file, run_image};
@@ -76,7 +76,7 @@ fn ran<E: Sink>(err: &mut E, image: Image, report: Report, written: Written) -> 
     }
 }
 
-// Writes the line on standard error after a listing.
+// Writes the line on standard error after a listing or a check.
 fn tell_listing<E: Sink>(err: &mut E, written: Written) -> Written
     ensures { Wrote (E.held err.old) (E.held err.new) (E.faults err.old) (E.faults err.new) (answer_line [] written) result }
 {
@@ -103,6 +103,55 @@ fn listed<E: Sink>(err: &mut E, image: Image, written: Written) -> Outcome
     }
 }
 
+// What is answered after a check was passed.
+fn passed<E: Sink>(err: &mut E, written: Written) -> Outcome
+    ensures status { result.status.0 ≡ answer_status 0 written }
+    ensures image { result.image ≡ None }
+    ensures report { result.report ≡ None }
+    ensures written { result.written ≡ Some written }
+    ensures told { (w : Written) × Wrote (E.held err.old) (E.held err.new) (E.faults err.old) (E.faults err.new) (answer_line [] written) w }
+{
+    let _told = tell_listing(err, written);
+    Outcome {
+        status: answer_status(Status(0), written),
+        image: None,
+        report: None,
+        written: Some(written),
+    }
+}
+
+// Checks the program of a file.
+fn check_program<F: Files, O: Sink, E: Sink>(
+    alloc: Global,
+    files: &mut F,
+    out: &mut O,
+    err: &mut E,
+    file: &str,
+) -> Outcome
+    requires { F.opened files.old ≡ None }
+    ensures opened { (F.opened files.new ≡ None) ⊎ (F.opened files.new ≡ Some file.now) }
+    ensures image { result.image ≡ None }
+    ensures report { result.report ≡ None }
+    ensures refused { result.written ≡ None → (O.held out.new ≡ O.held out.old)
+        × ((refusal : Refusal) × (i : Option Image) × Refused result refusal i (E.held err.old) (E.held err.new) (E.faults err.old) (E.faults err.new)) }
+    ensures passed { (w : Written) → result.written ≡ Some w
+        → Passed result (O.held out.old) (O.held out.new) (O.faults out.old) (O.faults out.new) (E.held err.old) (E.held err.new) (E.faults err.old) (E.faults err.new) }
+    ensures read { (bytes : List ℕ) (w : Written) → F.told files.old file.now ≡ Holds bytes → result.written ≡ Some w → IsRead bytes }
+    ensures breach { (bytes : List ℕ) → F.told files.old file.now ≡ Holds bytes → result.written ≡ None
+        → RefusedFor (IsCause (IsBreach bytes) (F.taken files.new) (F.faults files.old) (F.faults files.new)) result (E.held err.old) (E.held err.new) (E.faults err.old) (E.faults err.new) }
+    ensures usage { ¬ IsRefusedWith result 64 }
+    ensures file { IsRefusedWith result 68 → Rose (F.faults files.old) (F.faults files.new) }
+    ensures limited { F.opened files.new ≡ Some file.now → F.taken files.new ≡ 1048577 → IsRefusedWith result 67 }
+{
+    match check_file(alloc, files, file) {
+        Ok(_) => {
+            let written = write_all(out, b"ok\n");
+            passed(err, written)
+        }
+        Err(refusal) => refused(err, refusal, None),
+    }
+}
+
 // Compiles a file and lists its image.
 fn list_program<F: Files, O: Sink, E: Sink>(
     alloc: Global,
@@ -115,6 +164,9 @@ fn list_program<F: Files, O: Sink, E: Sink>(
     requires { F.opened files.old ≡ None }
     ensures compiles { Compiles result file.now (numbers_of settings.now) (F.told files.old file.now) (F.opened files.new) (F.taken files.new) (F.faults files.old) (F.faults files.new) }
     ensures report { result.report ≡ None }
+    ensures read { (bytes : List ℕ) (w : Written) → F.told files.old file.now ≡ Holds bytes → result.written ≡ Some w → IsRead bytes }
+    ensures breach { (bytes : List ℕ) → F.told files.old file.now ≡ Holds bytes → result.written ≡ None
+        → RefusedFor (IsCause (IsCompileBreach bytes) (F.taken files.new) (F.faults files.old) (F.faults files.new)) result (E.held err.old) (E.held err.new) (E.faults err.old) (E.faults err.new) }
     ensures refused { result.written ≡ None → (O.held out.new ≡ O.held out.old)
         × ((refusal : Refusal) × (i : Option Image) × Refused result refusal i (E.held err.old) (E.held err.new) (E.faults err.old) (E.faults err.new)) }
     ensures listed { (w : Written) → result.written ≡ Some w → (i : Image)
@@ -145,6 +197,9 @@ fn run_program<F: Files, O: Sink, E: Sink>(
 ) -> Outcome
     requires { F.opened files.old ≡ None }
     ensures compiles { Compiles result file.now (numbers_of settings.now) (F.told files.old file.now) (F.opened files.new) (F.taken files.new) (F.faults files.old) (F.faults files.new) }
+    ensures read { (bytes : List ℕ) (w : Written) → F.told files.old file.now ≡ Holds bytes → result.written ≡ Some w → IsRead bytes }
+    ensures breach { (bytes : List ℕ) → F.told files.old file.now ≡ Holds bytes → result.written ≡ None
+        → RefusedFor (IsCause (IsCompileBreach bytes) (F.taken files.new) (F.faults files.old) (F.faults files.new)) result (E.held err.old) (E.held err.new) (E.faults err.old) (E.faults err.new) }
     ensures shows { (bytes : List ℕ) → F.told files.old file.now ≡ Holds bytes
         → (i : Image) (r : Report) → result.image ≡ Some i → result.report ≡ Some r → Shows file.now bytes i r }
     ensures refused { result.written ≡ None → (O.held out.new ≡ O.held out.old)
@@ -162,7 +217,8 @@ fn run_program<F: Files, O: Sink, E: Sink>(
     }
 }
 
-/// Does what the command words say: compiles the file that they name, and runs it, or lists its image.
+/// Does what the command words say: checks the file that they name, or compiles it and runs it, or
+/// lists its image.
 pub fn effects_main<R: Threads + Wait, F: Files, O: Sink, E: Sink, G: Gate>(
     _rt: &R,
     alloc: Global,
@@ -175,7 +231,8 @@ pub fn effects_main<R: Threads + Wait, F: Files, O: Sink, E: Sink, G: Gate>(
     requires { F.opened files.old ≡ None }
     ensures opened { (F.opened files.new ≡ None) ⊎ (F.opened files.new ≡ option_map file_of (asked (map string_bytes words.now))) }
 
-    // Something was refused and nothing written to `out`, or the program was run, or its image listed.
+    // Something was refused and nothing written to `out`, or the program was run, or its image listed, or
+    // its check passed.
     ensures refused { result.written ≡ None → (O.held out.new ≡ O.held out.old)
         × ((refusal : Refusal) × (i : Option Image) × Refused result refusal i (E.held err.old) (E.held err.new) (E.faults err.old) (E.faults err.new)) }
     ensures ran { (file : List ℕ) (numbers : Numbers) (turns : ℕ) (w : Written) → asked (map string_bytes words.now) ≡ Some (AskedRun file numbers turns) → result.written ≡ Some w
@@ -186,25 +243,31 @@ pub fn effects_main<R: Threads + Wait, F: Files, O: Sink, E: Sink, G: Gate>(
         → (i : Image)
         × Listed result i (O.held out.old) (O.held out.new) (O.faults out.old) (O.faults out.new) (E.held err.old) (E.held err.new) (E.faults err.old) (E.faults err.new) }
 
+    ensures passed { (file : List ℕ) (w : Written) → asked (map string_bytes words.now) ≡ Some (AskedCheck file) → result.written ≡ Some w
+        → Passed result (O.held out.old) (O.held out.new) (O.faults out.old) (O.faults out.new) (E.held err.old) (E.held err.new) (E.faults err.old) (E.faults err.new) }
+
+    // Where the file's bytes are told, only a program passes, and each refusal has its cause.
+    ensures read { (a : Asked) (bytes : List ℕ) (w : Written) → asked (map string_bytes words.now) ≡ Some a → F.told files.old (file_of a) ≡ Holds bytes
+        → result.written ≡ Some w → IsRead bytes }
+    ensures breach { (a : Asked) (bytes : List ℕ) → asked (map string_bytes words.now) ≡ Some a → F.told files.old (file_of a) ≡ Holds bytes → result.written ≡ None
+        → RefusedFor (IsCause (IsWrongFor a bytes) (F.taken files.new) (F.faults files.old) (F.faults files.new)) result (E.held err.old) (E.held err.new) (E.faults err.old) (E.faults err.new) }
+
     // The image has the settings of the words. Where the file's bytes are told: it stands for the program
-    // that they are; the report is that of a run of that program; a syntax fault comes only where they are
-    // of another form.
+    // that they are, and the report is that of a run of that program.
     ensures settings { (a : Asked) → asked (map string_bytes words.now) ≡ Some a → IfSome result.image (λ i. numbers_of i.settings ≡ numbers_asked a) }
     ensures stands { (file bytes : List ℕ) → IsTold (F.told files.old) (map string_bytes words.now) file bytes
         → IfSome result.image (IsImageOf file bytes) }
     ensures shows { (file bytes : List ℕ) → IsTold (F.told files.old) (map string_bytes words.now) file bytes
         → (i : Image) (r : Report) → result.image ≡ Some i → result.report ≡ Some r → Shows file bytes i r }
-    ensures form { (file bytes : List ℕ) → IsTold (F.told files.old) (map string_bytes words.now) file bytes
-        → IsRefusedWith result 65 → (e : Expression) → ¬ IsFormOf bytes e }
 
-    // When each other refusal comes. Want of memory, with status 70, may come at any time.
+    // When refusals come wherever nothing is told. Want of memory, with status 70, may come at any time.
     ensures usage { IsRefusedWith result 64 ↔ (asked (map string_bytes words.now) ≡ None) }
     ensures file { IsRefusedWith result 68 → Rose (F.faults files.old) (F.faults files.new) }
-    ensures limit { IsRefusedWith result 67 → IsSome (F.opened files.new) × (F.taken files.new ≡ 1048577) }
     ensures limited { IsSome (F.opened files.new) → F.taken files.new ≡ 1048577 → IsRefusedWith result 67 }
 {
     match command_of(words) {
         None => refused(err, Refusal::Usage, None),
+        Some(Command::Check { file }) => check_program(alloc, files, out, err, file),
         Some(
             Command::Run {
                 file,

@@ -2,7 +2,7 @@
 
 ghost use Rattle.std.specs.Prelude.{◌≡◌, false, IfSome, MatchOption, IsTrue, unwrap_or, map, option_map};
 ghost use Rattle.std.specs.String.{string_bytes};
-ghost use Rattle.effects_top.specs.Words.{can_be_file, choice_of, least, most, is_of, number_of, seen_said, AreInRange, choose, with_option, with_file, is_joined, IsJoinedOf, said_by, numbers_of, numbers_said, seen_command, asked_listing, asked_run, asked};
+ghost use Rattle.effects_top.specs.Words.{can_be_file, choice_of, least, most, is_of, number_of, seen_said, AreInRange, choose, with_option, with_file, is_joined, IsJoinedOf, said_by, numbers_of, numbers_said, seen_command, asked_check, asked_listing, asked_run, asked};
 
 use crate::token::decimal;
 use fx_base::{Settings, Turns};
@@ -21,6 +21,10 @@ pub enum Choice {
 /// What the command words ask for.
 #[derive(Clone, Copy, Debug)]
 pub enum Command<'a> {
+    /// Whether the text of a file is a program.
+    Check {
+        file: &'a str,
+    },
     /// The listing of the image of a file.
     Assemble {
         file: &'a str,
@@ -215,6 +219,24 @@ fn turns(said: &Said<'_>) -> Turns
     }
 }
 
+// `check` takes a file and no options.
+fn check(arguments: &[String]) -> Option<Command<'_>>
+    ensures { option_map seen_command result ≡ asked_check (map string_bytes arguments.now) }
+{
+    match arguments {
+        [file] => {
+            if is_file(file.as_str()) {
+                Some(Command::Check {
+                    file: file.as_str(),
+                })
+            } else {
+                None
+            }
+        }
+        _ => None,
+    }
+}
+
 fn assemble<'a>(said: &Said<'a>) -> Option<Command<'a>>
     requires range { AreInRange said.now }
     ensures { option_map seen_command result ≡ asked_listing (seen_said said.now) }
@@ -242,7 +264,8 @@ fn run<'a>(said: &Said<'a>) -> Option<Command<'a>>
 /// What the command words ask for; `None` where they have no reading.
 ///
 /// ```text
-/// words  = "asm" FILE option*  |  "run" FILE option*      an option may stand before FILE too
+/// words  = "check" FILE
+///        | "asm" FILE option*  |  "run" FILE option*      an option may stand before FILE too
 /// option = ("--heap" | "--stack" | "--out" | "--budget" | "--domains" | "--turns") NUMBER
 /// ```
 ///
@@ -253,6 +276,7 @@ pub fn command_of(words: &[String]) -> Option<Command<'_>>
 {
     let (command, arguments) = words.split_first()?;
     match command.as_str() {
+        "check" => check(arguments),
         "asm" => assemble(&said_by(arguments, &NOTHING)?),
         "run" => run(&said_by(arguments, &NOTHING)?),
         _ => None,

@@ -1,4 +1,3 @@
-use Rattle.std.proofs.Common.{◌≡◌}
 use Rattle.effects_top.specs.Headline.{IsImageOf}
 use Rattle.effects_top.proofs.Reporting.{shown}
 use Rattle.effects_top.proofs.program.run_file.Goals as goal

@@ -1,4 +1,4 @@
-use Rattle.std.proofs.Common.{◌≡◌, ◌∙◌, sym, ap, map}
+use Rattle.std.proofs.Common.{◌∙◌, sym, ap, map}
 use Rattle.std.specs.Prelude.{◌∷◌, option_and_then, option_map}
 use Rattle.std.specs.String.{string_bytes}
 use Rattle.effects_top.specs.Words.{seen_said, said_by}
