@@ -16,6 +16,7 @@ import subprocess
 import sys
 import threading
 
+sys.dont_write_bytecode = True
 sys.path.insert(0, os.path.dirname(os.path.abspath(__file__)))
 from against_scopes import programs
 
@@ -339,7 +340,7 @@ def watched(typing):
     return Watched
 
 
-def reference(modules, text, name, skip):
+def reference(modules, text, name):
     lexer, parser, scope, typing = modules
     try:
         tokens = lexer.lex(text)
@@ -480,7 +481,7 @@ def main():
     rng = random.Random(seed)
     pool = {'lower': [], 'upper': [], 'tvar': ["'a", "'b"]}
     good = []
-    for i, t in enumerate(texts):
+    for t in texts:
         try:
             for k in lexer.lex(t.encode()):
                 if k.kind in pool:
@@ -488,10 +489,10 @@ def main():
             good.append(t)
         except lexer.Fault:
             pass
-    cases, asked = list(texts), []
+    cases = list(texts)
     while len(cases) < len(texts) + count:
         made = mutate(rng, lexer, rng.choice(good if rng.random() < 0.5 else good[:small]), pool)
-        if reference(modules, made.encode(), 'a.ml', 0)[0] not in ('syntax', 'name', 'other'):
+        if reference(modules, made.encode(), 'a.ml')[0] not in ('syntax', 'name', 'other'):
             cases.append(made)
     folder = os.path.join(workspace, 'files')
     os.makedirs(folder, exist_ok=True)
@@ -503,7 +504,7 @@ def main():
     answers = product(workspace, files)
     kinds, differ = {}, 0
     for name, text, answer in zip(files, cases, answers):
-        want, types = reference(modules, text.encode(), name, 0)
+        want, types = reference(modules, text.encode(), name)
         got = answer[0].split()[0]
         kind = want.split()[0]
         kinds[kind] = kinds.get(kind, 0) + 1

@@ -4,6 +4,7 @@
 //! it.
 
 use crate::members::Members;
+use crate::parts::part_of;
 use crate::schemes::{Scheme, Schemes};
 use crate::types::Types;
 use crate::walk::Task;
@@ -243,9 +244,7 @@ impl<'a> Inference<'a> {
     pub fn take_last(&mut self, count: usize) -> Result<Vec<u32>, AllocError> {
         let first = self.given.len().saturating_sub(count);
         let mut taken = Vec::with_capacity(self.alloc, count)?;
-        for found in self.given.iter().skip(first) {
-            taken.push(*found)?;
-        }
+        taken.extend_from_slice(part_of(self.given.as_slice(), first, count))?;
         self.given.truncate(first);
         Ok(taken)
     }

@@ -18,6 +18,7 @@ mod handlers;
 mod inference;
 mod items;
 mod members;
+mod parts;
 mod patterns;
 mod schemes;
 mod signatures;

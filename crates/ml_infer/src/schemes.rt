@@ -3,6 +3,7 @@
 //! A scheme is the part of a type that is no part of an outer one, as nodes of its own in one row: a
 //! copy makes one new type for each of them, in their order, and needs no search.
 
+use crate::parts::part_of;
 use crate::types::{Form, Types};
 use std::alloc::{AllocError, Global};
 
@@ -137,7 +138,7 @@ impl Schemes {
     pub fn copy(&self, types: &mut Types, scheme: Scheme) -> Result<u32, AllocError> {
         let base = types.len();
         let mut arguments = Vec::new(self.alloc);
-        for node in self.nodes.iter().skip(scheme.first).take(scheme.count) {
+        for node in part_of(self.nodes.as_slice(), scheme.first, scheme.count) {
             let SchemeNode::Applied {
                 constructor,
                 first,
@@ -148,7 +149,7 @@ impl Schemes {
                 continue;
             };
             arguments.clear();
-            for part in self.parts.iter().skip(first).take(count) {
+            for part in part_of(self.parts.as_slice(), first, count) {
                 arguments.push(copied(base, *part)?)?;
             }
             types.apply(constructor, arguments.as_slice())?;

@@ -5,6 +5,7 @@
 //! `string`, `unit` and `exn`, under the numbers of their rows.
 
 use crate::builtin_types::EXN;
+use crate::parts::part_of;
 use std::alloc::{AllocError, Global};
 
 /// What is known of a type.
@@ -164,13 +165,12 @@ impl Types {
 
     /// The arguments of a form.
     pub fn arguments(&self, form: Form) -> &[u32] {
-        if let Form::Applied { first, count, .. } = form
-            && let Some((_, rest)) = self.arguments.split_at_checked(first as usize)
-            && let Some((arguments, _)) = rest.split_at_checked(count as usize)
-        {
-            return arguments;
+        match form {
+            Form::Applied { first, count, .. } => {
+                part_of(self.arguments.as_slice(), first as usize, count as usize)
+            }
+            _ => &[],
         }
-        &[]
     }
 
     /// The argument of a form at a place, from 0.

@@ -2,6 +2,7 @@
 
 use crate::builtin_types::TUPLE;
 use crate::inference::Inference;
+use crate::parts::part_of;
 use effect_meaning::TypeExpression;
 use fx_base::Place;
 use std::alloc::AllocError;
@@ -115,7 +116,7 @@ impl<'a> Inference<'a> {
         let first = reading.read.len().saturating_sub(arguments.len());
         let mut parts = Vec::with_capacity(self.alloc, arguments.len())?;
         let mut is_closed = true;
-        for read in reading.read.iter().skip(first) {
+        for read in part_of(reading.read.as_slice(), first, arguments.len()) {
             parts.push(read.found)?;
             is_closed = is_closed && read.is_closed;
         }
