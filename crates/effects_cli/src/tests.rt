@@ -325,8 +325,8 @@ fn in_brackets(alloc: Global, depth: usize) -> Result<Vec<u8>, AllocError> {
 // Pairs of pairs, and a last definition: the type of the last pair has 2^(count + 1) - 1 nodes.
 fn pairs(alloc: Global, count: u32, last: &str) -> Result<Vec<u8>, AllocError> {
     let mut text = Vec::from_slice(alloc, b"let v1 = (1, 1)\n")?;
-    for i in 2..count + 1 {
-        let before = i - 1;
+    for before in 1..count {
+        let i = before + 1;
         let line = format!(in alloc; "let v{i} = (v{before}, v{before})\n")?;
         text.extend_from_slice(line.as_bytes())?;
     }
