@@ -210,6 +210,8 @@ fn checks_texts(rt: HostRuntime) -> Result<(), Fail> {
             "let () = print_int \"a\"",
             (66, "", "error: type at 1:20\n"),
         ),
+        ("let f x = x x", (66, "", "error: type at 1:11\n")),
+        ("let eq a b = a = b", (66, "", "error: type at 1:16\n")),
     ] {
         let left = call(&rt, rt.alloc(), &["check", "a.ml"], text.as_bytes(), NONE)?;
         assert_eq!(rt; left.outcome.status.0, status, "{text}");
@@ -219,166 +221,6 @@ fn checks_texts(rt: HostRuntime) -> Result<(), Fail> {
         );
         assert_eq!(rt; left.out.held(), out.as_bytes(), "{text}");
         assert_eq!(rt; left.err.held(), line.as_bytes(), "{text}");
-    }
-    Ok(())
-}
-
-// Faults of types, with their places.
-const ILL_TYPED: &[(&str, &str)] = &[
-    ("let f x = x x", "1:11"),
-    ("let eq a b = a = b", "1:16"),
-    ("let f x y = (x, y) = (y, x)", "1:20"),
-    ("let c = compare let x = c 1 2", "1:9"),
-    (
-        "let r = ref [] let () = r := 1 :: !r; r := \"a\" :: !r",
-        "1:48",
-    ),
-    (
-        "let id = (fun x -> x) (fun x -> x) let () = print_int (id 1); print_string (id \"a\")",
-        "1:80",
-    ),
-    ("let rec f : int -> bool = fun x -> x + 1", "1:27"),
-    (
-        "type t = { x : int; mutable y : int } let f r = r.x <- 1",
-        "1:53",
-    ),
-    ("type t = { x : int; y : int } let r = { x = 1 }", "1:39"),
-    ("type t = A of int | B let f = A", "1:31"),
-    ("type t = A of int | B let f = B 1", "1:31"),
-    ("let f (x : (int, int) list) = x", "1:7"),
-    ("let x = if 1 then 2 else 3", "1:12"),
-    ("type _ Effect.t += E : int list", "1:20"),
-    ("let f () = raise (Effect.Unhandled 1)", "1:19"),
-    ("let f g = try g () with Effect.Unhandled x -> 1", "1:25"),
-    (
-        "open Effect\nopen Effect.Deep\ntype _ Effect.t += E : int Effect.t\nlet f () = match perform E with v -> v | effect E, k -> continue k \"a\"",
-        "4:68",
-    ),
-    (
-        "open Effect\nopen Effect.Deep\ntype _ Effect.t += E : int Effect.t\nlet f () = match perform E with v -> string_of_int v | effect E, k -> continue k 1 + 1",
-        "4:71",
-    ),
-    (
-        "open Effect\nopen Effect.Deep\ntype _ Effect.t += E : int Effect.t\nlet f () = match 1 with v -> v | effect Some x, k -> 1",
-        "4:34",
-    ),
-    (
-        "open Effect\nopen Effect.Deep\ntype _ Effect.t += E : int Effect.t\nlet f g = match_with g () { retc = (fun x -> x + 1); exnc = raise; effc = fun (type a) (eff : a t) -> match eff with E -> Some (fun (k : (a, string) continuation) -> continue k 1) | _ -> None }",
-        "4:118",
-    ),
-    (
-        "open Effect\nopen Effect.Deep\ntype _ Effect.t += E : int Effect.t\ntype _ Effect.t += F : string -> unit Effect.t let f g = try_with g () { effc = fun (type a) (eff : a t) -> match eff with F (s : a) -> Some (fun k -> continue k ()) | _ -> None }",
-        "4:126",
-    ),
-];
-
-const WELL_TYPED: &[&str] = &[
-    "let id = fun x -> x let () = print_int (id 1); print_string (id \"a\")",
-    "let rec f : int -> int = fun x -> x let () = print_int (f 1)",
-    "let f g = try g () with Effect.Unhandled _ -> 1",
-    "let r = ref (fun x -> x) let () = print_int (!r 1)",
-    "open Effect.Shallow type _ Effect.t += G : int Effect.t let rec run k v = continue_with k v { retc = (fun () -> ()); exnc = raise; effc = fun (type a) (eff : a Effect.t) -> match eff with G -> Some (fun (k : (a, _) continuation) -> run k 1) | _ -> None }",
-];
-
-#[test]
-fn checks_types(rt: HostRuntime) -> Result<(), Fail> {
-    for (text, place) in ILL_TYPED {
-        let words = ["check", "a.ml"];
-        let left = call(&rt, rt.alloc(), &words, text.as_bytes(), NONE)?;
-        let line = format!(in rt.alloc(); "error: type at {place}\n")?;
-        assert_eq!(rt; left.outcome.status.0, 66, "{text}");
-        assert_eq!(rt; left.out.held(), b"".as_slice(), "{text}");
-        assert_eq!(rt; left.err.held(), line.as_bytes(), "{text}");
-    }
-    for text in WELL_TYPED {
-        let words = ["check", "a.ml"];
-        let left = call(&rt, rt.alloc(), &words, text.as_bytes(), NONE)?;
-        assert_eq!(rt; left.outcome.status.0, 0, "{text}");
-        assert_eq!(rt; left.out.held(), b"ok\n".as_slice(), "{text}");
-    }
-    Ok(())
-}
-
-// A text that is made of pieces, each of them so many times.
-fn made(alloc: Global, pieces: &[(&[u8], usize)]) -> Result<Vec<u8>, AllocError> {
-    let mut text = Vec::new(alloc);
-    for (piece, times) in pieces {
-        for _ in 0..*times {
-            text.extend_from_slice(piece)?;
-        }
-    }
-    Ok(text)
-}
-
-fn in_brackets(alloc: Global, depth: usize) -> Result<Vec<u8>, AllocError> {
-    made(
-        alloc,
-        &[
-            (b"let () = print_int ".as_slice(), 1),
-            (b"(".as_slice(), depth),
-            (b"1".as_slice(), 1),
-            (b")".as_slice(), depth),
-        ],
-    )
-}
-
-// Pairs of pairs, and a last definition: the type of the last pair has 2^(count + 1) - 1 nodes.
-fn pairs(alloc: Global, count: u32, last: &str) -> Result<Vec<u8>, AllocError> {
-    let mut text = Vec::from_slice(alloc, b"let v1 = (1, 1)\n")?;
-    for before in 1..count {
-        let i = before + 1;
-        let line = format!(in alloc; "let v{i} = (v{before}, v{before})\n")?;
-        text.extend_from_slice(line.as_bytes())?;
-    }
-    text.extend_from_slice(last.as_bytes())?;
-    Ok(text)
-}
-
-#[test]
-fn checks_large_types(rt: HostRuntime) -> Result<(), Fail> {
-    let limit = "error: limit type 4097 4096\n";
-    for (count, last, status, out, line) in [
-        (11, "", 0, "ok\n", ""),
-        (12, "", 67, "", limit),
-        (40, "", 67, "", limit),
-        (11, "let x = Some v11", 0, "ok\n", ""),
-        (11, "let x = Some (Some v11)", 67, "", limit),
-        (12, "let x = 1 + true", 66, "", "error: type at 13:13\n"),
-    ] {
-        let text = pairs(rt.alloc(), count, last)?;
-        let left = call(&rt, rt.alloc(), &["check", "a.ml"], &text, NONE)?;
-        assert_eq!(rt; left.outcome.status.0, status, "{count}{last}");
-        assert_eq!(rt; left.out.held(), out.as_bytes(), "{count}{last}");
-        assert_eq!(rt; left.err.held(), line.as_bytes(), "{count}{last}");
-    }
-    Ok(())
-}
-
-#[test]
-fn checks_large_texts(rt: HostRuntime) -> Result<(), Fail> {
-    let alloc = rt.alloc();
-    let deep = in_brackets(alloc, 398)?;
-    let deeper = in_brackets(alloc, 399)?;
-    let long = made(
-        alloc,
-        &[
-            (b"let () = ".as_slice(), 1),
-            (b"();".as_slice(), 200_000),
-            (b"()".as_slice(), 1),
-        ],
-    )?;
-    let limit = "error: limit depth 401 400\n";
-    for (command, text, status, out, line) in [
-        ("check", &deep, 0, "ok\n", ""),
-        ("run", &deep, 63, "", "error: later at 1:1\n"),
-        ("check", &deeper, 67, "", limit),
-        ("run", &deeper, 67, "", limit),
-        ("check", &long, 0, "ok\n", ""),
-    ] {
-        let left = call(&rt, alloc, &[command, "a.ml"], text, NONE)?;
-        assert_eq!(rt; left.outcome.status.0, status, "{command}{line}");
-        assert_eq!(rt; left.out.held(), out.as_bytes(), "{command}{line}");
-        assert_eq!(rt; left.err.held(), line.as_bytes(), "{command}{line}");
     }
     Ok(())
 }
@@ -509,22 +351,6 @@ fn names_each_fault(rt: HostRuntime) -> Result<(), Fail> {
         assert_eq!(rt; left.outcome.status.0, status, "{printed}{line}");
         assert_eq!(rt; left.out.held(), printed.as_bytes(), "{printed}{line}");
         assert_eq!(rt; left.err.held(), line.as_bytes(), "{printed}{line}");
-    }
-    Ok(())
-}
-
-#[test]
-fn names_each_fault_of_a_check(rt: HostRuntime) -> Result<(), Fail> {
-    for (faults, (status, out, line)) in [
-        (reading(&[1]), (68, "", "error: file\n")),
-        (writing(&[], 1), (0, "ok\n", "")),
-        (writing(&[1], 1), (69, "o", "error: output\n")),
-    ] {
-        let words = ["check", "a.ml"];
-        let left = call(&rt, rt.alloc(), &words, ANSWER.as_bytes(), faults)?;
-        assert_eq!(rt; left.outcome.status.0, status, "{out}{line}");
-        assert_eq!(rt; left.out.held(), out.as_bytes(), "{out}{line}");
-        assert_eq!(rt; left.err.held(), line.as_bytes(), "{out}{line}");
     }
     Ok(())
 }
