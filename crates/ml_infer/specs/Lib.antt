@@ -1,1 +1,14 @@
+pub mod Belonging
+pub mod Constructed
+pub mod Declarations
+pub mod Handlers
+pub mod Items
+pub mod Known
+pub mod Patterns
 pub mod Refused
+pub mod State
+pub mod Tasks
+pub mod Terms
+pub mod Verdict
+pub mod Walk
+pub mod Written

@@ -12,22 +12,19 @@
 //! Stands on: `fx_base`, `effect_meaning`, `type_terms`.
 #![tactic(auto)]
 
-mod builtin_types;
 mod constructors;
+mod declarations;
 mod handlers;
 mod inference;
 mod items;
+mod known;
 mod members;
-mod parts;
 mod patterns;
-mod schemes;
-mod signatures;
-mod sizes;
 mod solve;
+mod tasks;
 mod terms;
 #[cfg(test)]
 mod tests;
-mod types;
 mod walk;
 mod written;
 

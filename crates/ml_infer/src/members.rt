@@ -1,63 +1,90 @@
 //! Which rows of a table belong to each type.
 
+ghost use Rattle.std.specs.Prelude.{◌≡◌, map, OnOk, IfOk};
+ghost use Rattle.ml_infer.specs.Belonging.{belonging, count_of, first_of, member_added, next_of, no_members};
+
+use crate::known::Known;
+use effect_meaning::CoreArena;
 use std::alloc::{AllocError, Global};
 
-/// The numbers of the rows, those of each type together, and where those of each type begin.
+/// The rows of each type, in their order: the first of them, and behind each the next one.
 #[derive(Drop)]
 pub struct Members {
-    rows: Vec<u32>,
-    starts: Vec<usize>,
+    pub firsts: Known<u32>,
+    pub nexts: Known<u32>,
+    pub counts: Known<u32>,
 }
 
 impl Members {
-    /// Sorts the rows of a table, of which the types are given, by their types.
-    pub fn new(alloc: Global, types: usize, of_types: &[u32]) -> Result<Members, AllocError> {
-        let mut rows = Vec::new(alloc);
-        rows.resize(of_types.len(), 0)?;
-        let mut starts = Vec::new(alloc);
-        starts.resize(types.saturating_add(1), 0)?;
-        let mut members = Members { rows, starts };
-        members.count(of_types);
-        members.place(of_types);
+    /// The rows of a table, of which the types are given.
+    pub fn new(alloc: Global, of_types: &[u32]) -> Result<Members, AllocError>
+        ensures { IfOk result (λ members. members ≡ belonging 0 of_types.now) }
+    {
+        let mut members = Members {
+            firsts: Known::new(alloc),
+            nexts: Known::new(alloc),
+            counts: Known::new(alloc),
+        };
+        if of_types.len() > u32::MAX as usize {
+            return Err(AllocError);
+        }
+        for row in (0..of_types.len()).rev() {
+            members.add(row as u32, of_types[row])?;
+        }
         Ok(members)
     }
 
-    // Where the rows of each type end.
-    fn count(&mut self, of_types: &[u32]) {
-        for of_type in of_types {
-            if let Some(count) = self.starts.get_mut(*of_type as usize) {
-                *count = count.saturating_add(1);
-            }
+    // Puts a row before the others of its type.
+    fn add(&mut self, row: u32, of_type: u32) -> Result<(), AllocError>
+        ensures { OnOk result (self.new ≡ member_added row of_type self.old) }
+    {
+        if let Some(next) = self.first(of_type) {
+            self.nexts.set(row, next)?;
         }
-        let mut sum = 0usize;
-        for count in self.starts.iter_mut() {
-            sum = sum.saturating_add(*count);
-            *count = sum;
-        }
+        let count = self.count(of_type).saturating_add(1);
+        self.firsts.set(of_type, row)?;
+        self.counts.set(of_type, count)
     }
 
-    // Puts each row before those that were put behind it, from the last to the first.
-    fn place(&mut self, of_types: &[u32]) {
-        for (row, of_type) in of_types.iter().enumerate().rev() {
-            if let Some(start) = self.starts.get_mut(*of_type as usize) {
-                *start = start.saturating_sub(1);
-                if row < u32::MAX as usize
-                    && let Some(place) = self.rows.get_mut(*start)
-                {
-                    *place = row as u32;
-                }
-            }
-        }
+    /// The first row of a type.
+    pub fn first(&self, of_type: u32) -> Option<u32>
+        ensures { result ≡ first_of self.now of_type }
+    {
+        self.firsts.get(of_type)
     }
 
-    /// The rows of a type, in the order of their numbers.
-    pub fn of_type(&self, n: u32) -> &[u32] {
-        let (Some(start), Some(end)) = (
-            self.starts.get(n as usize),
-            self.starts.get((n as usize).saturating_add(1)),
-        ) else {
-            return &[];
-        };
-        self.rows.get(*start..*end).unwrap_or(&[])
+    /// The next row of the same type.
+    pub fn next(&self, row: u32) -> Option<u32>
+        ensures { result ≡ next_of self.now row }
+    {
+        self.nexts.get(row)
     }
+
+    /// How many rows a type has.
+    pub fn count(&self, of_type: u32) -> u32
+        ensures { result ≡ count_of self.now of_type }
+    {
+        match self.counts.get(of_type) {
+            Some(count) => count,
+            None => 0,
+        }
+    }
+}
+
+/// The constructors of each type.
+pub fn variants_of(alloc: Global, arena: &CoreArena) -> Result<Members, AllocError>
+    ensures { IfOk result (λ members. members ≡ belonging 0 (map (λ r. r.of_type) arena.now.variant_rows)) }
+{
+    let rows = arena.variant_rows().iter();
+    let of_types: Vec<u32> = rows.map(|row| row.of_type).collect(alloc)?;
+    Members::new(alloc, of_types.as_slice())
+}
+
+/// The fields of each type.
+pub fn fields_of(alloc: Global, arena: &CoreArena) -> Result<Members, AllocError>
+    ensures { IfOk result (λ members. members ≡ belonging 0 (map (λ r. r.of_type) arena.now.field_rows)) }
+{
+    let rows = arena.field_rows().iter();
+    let of_types: Vec<u32> = rows.map(|row| row.of_type).collect(alloc)?;
+    Members::new(alloc, of_types.as_slice())
 }

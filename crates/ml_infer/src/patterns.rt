@@ -1,24 +1,98 @@
 //! The equations of patterns and of clauses.
 
-use crate::builtin_types::{BOOL, EXN};
-use crate::constructors::{UNHANDLED, constant_type};
-use crate::inference::{Inference, NameType};
-use crate::walk::Task;
-use effect_meaning::{Clause, Constructor, FieldPart, PatternForm, TermForm};
-use fx_base::Place;
-use std::alloc::AllocError;
+ghost use Rattle.std.specs.Prelude.{◌≡◌, map, zip, OnOk, IfOk};
+ghost use Rattle.ml_infer.specs.State.{gives};
+ghost use Rattle.ml_infer.specs.Patterns.{alias, bound, clause, clause_task, clauses, clauses_of, constructor_pattern, field_pattern, field_pattern_task, first_clauses, is_any, joined_pattern, pattern, pattern_of, record_pattern, tuple_pattern, whole_pattern};
 
-impl<'a> Inference<'a> {
+use crate::constructors::{constant_type, field_owner, is_owner, is_unhandled};
+use crate::inference::{Inference, NameType};
+use crate::tasks::Task;
+use crate::written::Variables;
+use effect_meaning::{Clause, Constructor, CoreArena, FieldPart, PatternForm, TermForm};
+use fx_base::Place;
+use std::alloc::{AllocError, Global};
+use type_graph::{BOOL, EXN, Stack, TUPLE};
+
+// Patterns that have types, in their order.
+fn pattern_tasks(alloc: Global, patterns: &[u32], expected: &[u32]) -> Result<Vec<Task>, AllocError>
+    ensures { IfOk result (λ tasks. tasks.items ≡ map (λ p. Task.PatternIs p.0 p.1) (zip patterns.now expected.now)) }
+{
+    let pairs = patterns.iter().zip(expected);
+    pairs
+        .map(|(pattern, expected)| Task::PatternIs {
+            pattern: *pattern,
+            expected: *expected,
+        })
+        .collect(alloc)
+}
+
+// The fields of a pattern for records of a type, in their order.
+fn field_tasks(
+    alloc: Global,
+    place: Place,
+    of_type: u32,
+    variables: Variables,
+    parts: &[FieldPart],
+) -> Result<Vec<Task>, AllocError>
+    ensures { IfOk result (λ tasks. tasks.items ≡ map (field_pattern_task place of_type variables) parts.now) }
+{
+    parts
+        .iter()
+        .map(|part| Task::FieldPatternIs {
+            place,
+            of_type,
+            part: *part,
+            variables,
+        })
+        .collect(alloc)
+}
+
+// Clauses for values of a type, whose bodies have the other one, in their order.
+fn clause_tasks(
+    alloc: Global,
+    subject: u32,
+    body_type: u32,
+    clauses: &[Clause],
+) -> Result<Vec<Task>, AllocError>
+    ensures { IfOk result (λ tasks. tasks.items ≡ map (clause_task subject body_type) clauses.now) }
+{
+    clauses
+        .iter()
+        .map(|clause| Task::Clause {
+            pattern: clause.pattern,
+            guard: clause.guard,
+            body: clause.body,
+            subject,
+            body_type,
+        })
+        .collect(alloc)
+}
+
+// Whether a pattern is `_`.
+fn is_any(arena: &CoreArena, pattern: u32) -> bool
+    ensures { result ≡ is_any arena.now pattern }
+{
+    match arena.patterns().get(pattern as usize) {
+        Some(node) => matches!(&node.form, PatternForm::Any),
+        None => false,
+    }
+}
+
+impl Inference {
     /// Puts a whole pattern that has a type before all others. The names that it binds are new.
-    pub fn whole_pattern(&mut self, pattern: u32, expected: u32) -> Result<(), AllocError> {
+    pub fn whole_pattern(&mut self, pattern: u32, expected: u32) -> Result<(), AllocError>
+        ensures { OnOk result (self.new ≡ whole_pattern pattern expected self.old) }
+    {
         self.pattern = self.pattern.saturating_add(1);
-        self.bound.clear();
-        self.first_pattern(pattern, expected)
+        self.bound = Stack::new(self.types.alloc());
+        self.push(Task::PatternIs { pattern, expected })
     }
 
     // The type of a name that the pattern at hand binds. Both sides of an or-pattern bind it.
-    fn bind(&mut self, name: u32) -> Result<u32, AllocError> {
-        if let NameType::One { found, pattern } = self.name(name)
+    fn bind(&mut self, name: u32) -> Result<u32, AllocError>
+        ensures { IfOk result (λ found. bound name self.old ≡ gives found self.new) }
+    {
+        if let Some(NameType::One { found, pattern }) = self.names.get(name)
             && pattern == self.pattern
         {
             return Ok(found);
@@ -29,14 +103,30 @@ impl<'a> Inference<'a> {
     }
 
     /// The equations of a pattern. Those of its parts come first.
-    pub fn pattern(&mut self, n: u32) -> Result<(), AllocError> {
-        let Some(node) = self.tables.patterns.get(n as usize) else {
-            let found = self.types.variable()?;
-            return self.give(found);
-        };
-        match &node.form {
+    pub fn pattern(&mut self, arena: &CoreArena, n: u32) -> Result<(), AllocError>
+        ensures { OnOk result (self.new ≡ pattern arena.now n self.old) }
+    {
+        match arena.patterns().get(n as usize) {
+            Some(node) => self.pattern_of(arena, node.place, &node.form),
+            None => {
+                let found = self.variable()?;
+                self.give(found)
+            }
+        }
+    }
+
+    #[tactic(auto, unfolding(crate::specs::Patterns::pattern_of))]
+    fn pattern_of(
+        &mut self,
+        arena: &CoreArena,
+        place: Place,
+        form: &PatternForm,
+    ) -> Result<(), AllocError>
+        ensures { OnOk result (self.new ≡ pattern_of form.now arena.now place self.old) }
+    {
+        match form {
             PatternForm::Any => {
-                let found = self.types.variable()?;
+                let found = self.variable()?;
                 self.give(found)
             }
             PatternForm::Name(name) => {
@@ -44,33 +134,38 @@ impl<'a> Inference<'a> {
                 self.give(found)
             }
             PatternForm::Constant(constant) => self.give(constant_type(*constant)),
-            PatternForm::Tuple(parts) => {
-                self.push(Task::Tuple(parts.len()))?;
-                for part in parts.as_slice().iter().rev() {
-                    self.push(Task::Pattern(*part))?;
-                }
-                Ok(())
-            }
+            PatternForm::Tuple(parts) => self.tuple_pattern(parts.as_slice()),
             PatternForm::Constructor(constructor) => {
-                self.constructor_pattern(node.place, *constructor, None)
+                self.constructor_pattern(arena, place, *constructor, None)
             }
             PatternForm::Construct {
                 constructor,
                 argument,
-            } => self.constructor_pattern(node.place, *constructor, Some(*argument)),
-            PatternForm::Record(parts) => self.record_pattern(node.place, parts.as_slice()),
-            other => self.joined_pattern(node.place, other),
+            } => self.constructor_pattern(arena, place, *constructor, Some(*argument)),
+            PatternForm::Record(parts) => self.record_pattern(arena, place, parts.as_slice()),
+            other => self.joined_pattern(arena, place, other),
         }
     }
 
     // Patterns that have the type of a part.
-    fn joined_pattern(&mut self, place: Place, form: &PatternForm) -> Result<(), AllocError> {
+    #[tactic(auto, unfolding(crate::specs::Patterns::joined_pattern))]
+    fn joined_pattern(
+        &mut self,
+        arena: &CoreArena,
+        place: Place,
+        form: &PatternForm,
+    ) -> Result<(), AllocError>
+        ensures { OnOk result (self.new ≡ joined_pattern form.now arena.now place self.old) }
+    {
         match form {
-            PatternForm::Or { left, right } => self.first(&[
-                Task::Pattern(*left),
-                Task::Pattern(*right),
-                Task::Agree(self.pattern_place(*right)),
-            ]),
+            PatternForm::Or { left, right } => {
+                let place = self.pattern_place(arena, *right);
+                self.first(&[
+                    Task::Pattern(*left),
+                    Task::Pattern(*right),
+                    Task::Agree(place),
+                ])
+            }
             PatternForm::Alias { pattern, name } => self.first(&[
                 Task::Pattern(*pattern),
                 Task::Alias { place, name: *name },
@@ -89,35 +184,43 @@ impl<'a> Inference<'a> {
         }
     }
 
+    fn tuple_pattern(&mut self, parts: &[u32]) -> Result<(), AllocError>
+        ensures { OnOk result (self.new ≡ tuple_pattern parts.now self.old) }
+    {
+        let expected = self.new_variables(parts.len())?;
+        let found = self.types.apply(TUPLE, expected.as_slice())?;
+        self.push(Task::Give(found))?;
+        let tasks = pattern_tasks(self.types.alloc(), parts, expected.as_slice())?;
+        self.first(tasks.as_slice())
+    }
+
     /// The name of a pattern's whole value.
-    pub fn alias(&mut self, place: Place, name: u32) -> Result<(), AllocError> {
+    pub fn alias(&mut self, place: Place, name: u32) -> Result<(), AllocError>
+        ensures { OnOk result (self.new ≡ alias place name self.old) }
+    {
         let found = self.take()?;
         self.give(found)?;
         let bound = self.bind(name)?;
         self.equate(place, bound, found)
     }
 
-    fn is_any(&self, pattern: u32) -> bool {
-        match self.tables.patterns.get(pattern as usize) {
-            Some(node) => matches!(&node.form, PatternForm::Any),
-            None => false,
-        }
-    }
-
     fn constructor_pattern(
         &mut self,
+        arena: &CoreArena,
         place: Place,
         constructor: Constructor,
         argument: Option<u32>,
-    ) -> Result<(), AllocError> {
-        let constructed = self.constructed(constructor, place)?;
+    ) -> Result<(), AllocError>
+        ensures { OnOk result (self.new ≡ constructor_pattern constructor argument arena.now place self.old) }
+    {
+        let constructed = self.constructed(arena, constructor, place)?;
         self.push(Task::Give(constructed.value))?;
         match (argument, constructed.argument) {
-            (Some(argument), Some(expected)) => {
-                if constructor == UNHANDLED && !self.is_any(argument) {
+            (Some(pattern), Some(expected)) => {
+                if is_unhandled(constructor) && !is_any(arena, pattern) {
                     self.refuse(place);
                 }
-                self.first_pattern(argument, expected)
+                self.push(Task::PatternIs { pattern, expected })
             }
             (None, None) => Ok(()),
             _ => {
@@ -128,43 +231,85 @@ impl<'a> Inference<'a> {
     }
 
     // The fields of a record pattern are of one type.
-    fn record_pattern(&mut self, place: Place, parts: &[FieldPart]) -> Result<(), AllocError> {
+    fn record_pattern(
+        &mut self,
+        arena: &CoreArena,
+        place: Place,
+        parts: &[FieldPart],
+    ) -> Result<(), AllocError>
+        ensures { OnOk result (self.new ≡ record_pattern parts.now arena.now place self.old) }
+    {
         let Some(first) = parts.first() else {
             self.refuse(place);
             return Ok(());
         };
-        let Some(of_type) = self.field_owner(first.field) else {
+        let Some(of_type) = field_owner(arena, first.field) else {
             return Ok(());
         };
-        let (variables, found) = self.instance(of_type)?;
-        self.push(Task::Give(found))?;
-        for part in parts.iter().rev() {
-            if self.field_owner(part.field) != Some(of_type) {
-                self.refuse(place);
-            }
-            let expected = self.field_type(part.field, variables, place)?;
-            self.first_pattern(part.part, expected)?;
+        let made = self.instance(arena, of_type)?;
+        self.push(Task::Give(made.value))?;
+        let alloc = self.types.alloc();
+        let tasks = field_tasks(alloc, place, of_type, made.variables, parts)?;
+        self.first(tasks.as_slice())
+    }
+
+    /// A field of a pattern for records of a type.
+    pub fn field_pattern(
+        &mut self,
+        arena: &CoreArena,
+        place: Place,
+        of_type: u32,
+        part: FieldPart,
+        variables: Variables,
+    ) -> Result<(), AllocError>
+        ensures { OnOk result (self.new ≡ field_pattern arena.now place of_type part variables self.old) }
+    {
+        if !is_owner(arena, of_type, part.field) {
+            self.refuse(place);
         }
-        Ok(())
+        let expected = self.field_type(arena, part.field, variables, place)?;
+        self.push(Task::PatternIs {
+            pattern: part.part,
+            expected,
+        })
     }
 
     /// The clauses of a match or a catch, behind its subject. Their bodies have a type.
-    pub fn clauses(&mut self, term: u32, body: u32) -> Result<(), AllocError> {
+    pub fn clauses(
+        &mut self,
+        arena: &CoreArena,
+        term: u32,
+        body_type: u32,
+    ) -> Result<(), AllocError>
+        ensures { OnOk result (self.new ≡ clauses arena.now term body_type self.old) }
+    {
         let subject = self.take()?;
-        let Some(node) = self.tables.terms.get(term as usize) else {
-            return Ok(());
-        };
-        match &node.form {
+        match arena.terms().get(term as usize) {
+            Some(node) => self.clauses_of(&node.form, subject, body_type),
+            None => Ok(()),
+        }
+    }
+
+    #[tactic(auto, unfolding(crate::specs::Patterns::clauses_of))]
+    fn clauses_of(
+        &mut self,
+        form: &TermForm,
+        subject: u32,
+        body_type: u32,
+    ) -> Result<(), AllocError>
+        ensures { OnOk result (self.new ≡ clauses_of form.now subject body_type self.old) }
+    {
+        match form {
             TermForm::Match { clauses, .. } => {
-                self.first_clauses(clauses.as_slice(), subject, body)
+                self.first_clauses(clauses.as_slice(), subject, body_type)
             }
             TermForm::Catch {
                 values,
                 exceptions,
                 ..
             } => {
-                self.first_clauses(exceptions.as_slice(), EXN, body)?;
-                self.first_clauses(values.as_slice(), subject, body)
+                self.first_clauses(exceptions.as_slice(), EXN, body_type)?;
+                self.first_clauses(values.as_slice(), subject, body_type)
             }
             _ => Ok(()),
         }
@@ -172,26 +317,37 @@ impl<'a> Inference<'a> {
 
     fn first_clauses(
         &mut self,
-        clauses: &'a [Clause],
+        clauses: &[Clause],
         subject: u32,
-        body: u32,
-    ) -> Result<(), AllocError> {
-        for clause in clauses.iter().rev() {
-            self.push(Task::Clause {
-                clause,
-                subject,
-                body,
-            })?;
-        }
-        Ok(())
+        body_type: u32,
+    ) -> Result<(), AllocError>
+        ensures { OnOk result (self.new ≡ first_clauses clauses.now subject body_type self.old) }
+    {
+        let tasks = clause_tasks(self.types.alloc(), subject, body_type, clauses)?;
+        self.first(tasks.as_slice())
     }
 
-    /// A clause.
-    pub fn clause(&mut self, clause: &Clause, subject: u32, body: u32) -> Result<(), AllocError> {
-        self.first_term(clause.body, body)?;
-        if let Some(guard) = clause.guard {
-            self.first_term(guard, BOOL)?;
+    /// A clause: its pattern, its guard if it has one, and its body.
+    pub fn clause(
+        &mut self,
+        pattern: u32,
+        guard: Option<u32>,
+        body: u32,
+        subject: u32,
+        body_type: u32,
+    ) -> Result<(), AllocError>
+        ensures { OnOk result (self.new ≡ clause pattern guard body subject body_type self.old) }
+    {
+        self.push(Task::TermIs {
+            term: body,
+            expected: body_type,
+        })?;
+        if let Some(term) = guard {
+            self.push(Task::TermIs {
+                term,
+                expected: BOOL,
+            })?;
         }
-        self.whole_pattern(clause.pattern, subject)
+        self.whole_pattern(pattern, subject)
     }
 }

@@ -1,11 +1,15 @@
 //! Types as they are written in the text.
 
-use crate::builtin_types::TUPLE;
-use crate::inference::Inference;
-use crate::parts::part_of;
-use effect_meaning::TypeExpression;
+ghost use Rattle.std.specs.Prelude.{◌≡◌, ◌++◌, map, OnOk, IfOk};
+ghost use Rattle.std.specs.List.{list_all};
+ghost use Rattle.ml_infer.specs.State.{gives};
+ghost use Rattle.ml_infer.specs.Written.{annotated_if, entered, found_of, item_variable, left, noted_read, read_before, reading, takes, type_variable, visited, visited_one, written};
+
+use crate::inference::{Inference, Read};
+use effect_meaning::{CoreArena, TypeExpression};
 use fx_base::Place;
-use std::alloc::AllocError;
+use std::alloc::{AllocError, Global};
+use type_graph::{Stack, TUPLE, UNIT};
 
 /// What the variables of a written type stand for.
 #[derive(Clone, Copy)]
@@ -18,148 +22,231 @@ pub enum Variables {
 
 /// A step of reading a written type.
 #[derive(Clone, Copy)]
-enum Visit {
+pub enum Visit {
     Enter(u32),
     /// Its arguments are read.
     Leave(u32),
 }
 
-/// A type that was read, and whether no variable is in it.
-#[derive(Clone, Copy)]
-struct Read {
-    found: u32,
-    is_closed: bool,
-}
-
-/// A written type as it is read.
-#[derive(Drop)]
-struct Reading {
-    visits: Vec<Visit>,
-    read: Vec<Read>,
-    variables: Variables,
-    place: Place,
-}
-
-impl<'a> Inference<'a> {
+impl Inference {
     /// The type that a written one stands for. A type constructor with a wrong number of arguments is
     /// a fault at the place.
     pub fn written(
         &mut self,
+        arena: &CoreArena,
         n: u32,
         variables: Variables,
         place: Place,
-    ) -> Result<u32, AllocError> {
-        let mut reading = Reading {
-            visits: Vec::new(self.alloc),
-            read: Vec::new(self.alloc),
-            variables,
-            place,
-        };
-        reading.visits.push(Visit::Enter(n))?;
-        for _ in 0..u64::MAX {
-            match reading.visits.pop() {
-                Some(Visit::Enter(n)) => self.enter_written(&mut reading, n)?,
-                Some(Visit::Leave(n)) => self.leave_written(&mut reading, n)?,
-                None => break,
+    ) -> Result<u32, AllocError>
+        ensures { IfOk result (λ found. written arena.now n variables place self.old ≡ gives found self.new) }
+    {
+        let mut visits = Stack::new(self.types.alloc());
+        visits.push(Visit::Enter(n))?;
+        self.read_all(arena, variables, place, visits)?;
+        Ok(self.found(n))
+    }
+
+    /// A type is the one that is written, if one is.
+    pub fn annotate(
+        &mut self,
+        arena: &CoreArena,
+        place: Place,
+        found: u32,
+        annotation: Option<u32>,
+    ) -> Result<(), AllocError>
+        ensures { OnOk result (self.new ≡ annotated_if arena.now place found annotation self.old) }
+    {
+        match annotation {
+            Some(annotation) => {
+                let expected = self.written(arena, annotation, Variables::OfItem, place)?;
+                self.equate(place, found, expected)
             }
-        }
-        match reading.read.pop() {
-            Some(read) => Ok(read.found),
-            None => self.types.variable(),
+            None => Ok(()),
         }
     }
 
-    fn enter_written(&mut self, reading: &mut Reading, n: u32) -> Result<(), AllocError> {
-        if let Some(Some(found)) = self.closed.get(n as usize) {
-            reading.read.push(Read {
-                found: *found,
-                is_closed: true,
-            })?;
+    // Takes all steps.
+    fn read_all(
+        &mut self,
+        arena: &CoreArena,
+        variables: Variables,
+        place: Place,
+        mut visits: Stack<Visit>,
+    ) -> Result<(), AllocError>
+        ensures { OnOk result (self.new ≡ visited u64.MAX arena.now variables place visits self.old) }
+    {
+        for _step in 0..u64::MAX {
+            let Some(visit) = visits.pop() else {
+                return Ok(());
+            };
+            self.visit(arena, variables, place, visit, &mut visits)?;
+        }
+        Err(AllocError)
+    }
+
+    // Takes a step.
+    fn visit(
+        &mut self,
+        arena: &CoreArena,
+        variables: Variables,
+        place: Place,
+        visit: Visit,
+        visits: &mut Stack<Visit>,
+    ) -> Result<(), AllocError>
+        ensures { OnOk result (visited_one arena.now variables place visit visits.old self.old ≡ reading visits.new self.new) }
+    {
+        match visit {
+            Visit::Enter(n) => self.enter(arena, variables, place, n, visits),
+            Visit::Leave(n) => self.leave(arena, n),
+        }
+    }
+
+    // What a written type was read as.
+    fn found(&self, n: u32) -> u32
+        ensures { result ≡ found_of self.now.read n }
+    {
+        match self.read.get(n) {
+            Some(read) => read.found,
+            None => UNIT,
+        }
+    }
+
+    // Whether a written type was read, and no variable is in it.
+    fn is_closed(&self, n: u32) -> bool
+        ensures { result ≡ read_before self.now.read n }
+    {
+        match self.read.get(n) {
+            Some(read) => read.is_closed,
+            None => false,
+        }
+    }
+
+    // Begins with a written type, which may have been read before.
+    fn enter(
+        &mut self,
+        arena: &CoreArena,
+        variables: Variables,
+        place: Place,
+        n: u32,
+        visits: &mut Stack<Visit>,
+    ) -> Result<(), AllocError>
+        ensures { OnOk result (entered arena.now variables place n visits.old self.old ≡ reading visits.new self.new) }
+    {
+        if self.is_closed(n) {
             return Ok(());
         }
-        let found = match self.tables.types.get(n as usize) {
-            Some(TypeExpression::Variable(v)) => self.type_variable(reading.variables, *v)?,
+        match arena.types().get(n as usize) {
+            Some(TypeExpression::Variable(v)) => {
+                let found = self.type_variable(variables, *v)?;
+                self.note_read(n, found, false)
+            }
             Some(
                 TypeExpression::Applied {
                     constructor,
                     arguments,
                 },
             ) => {
-                if !self.takes(*constructor, arguments.len()) {
-                    self.refuse(reading.place);
+                if !takes(arena, *constructor, arguments.len()) {
+                    self.refuse(place);
                 }
-                reading.visits.push(Visit::Leave(n))?;
-                for argument in arguments.as_slice().iter().rev() {
-                    reading.visits.push(Visit::Enter(*argument))?;
-                }
-                return Ok(());
+                visits.push(Visit::Leave(n))?;
+                let entered = enter_each(self.types.alloc(), arguments.as_slice())?;
+                visits.push_first(entered.as_slice())
             }
-            _ => self.types.variable()?,
-        };
-        reading.read.push(Read {
-            found,
-            is_closed: false,
-        })?;
-        Ok(())
+            _ => {
+                let found = self.variable()?;
+                self.note_read(n, found, false)
+            }
+        }
     }
 
-    fn leave_written(&mut self, reading: &mut Reading, n: u32) -> Result<(), AllocError> {
+    // Ends a written type, whose arguments are read.
+    fn leave(&mut self, arena: &CoreArena, n: u32) -> Result<(), AllocError>
+        ensures { OnOk result (self.new ≡ left arena.now n self.old) }
+    {
         let Some(
             TypeExpression::Applied {
                 constructor,
                 arguments,
             },
-        ) = self.tables.types.get(n as usize)
+        ) = arena.types().get(n as usize)
         else {
             return Ok(());
         };
-        let first = reading.read.len().saturating_sub(arguments.len());
-        let mut parts = Vec::with_capacity(self.alloc, arguments.len())?;
-        let mut is_closed = true;
-        for read in part_of(reading.read.as_slice(), first, arguments.len()) {
-            parts.push(read.found)?;
-            is_closed = is_closed && read.is_closed;
-        }
-        reading.read.truncate(first);
+        let parts = self.found_all(arguments.as_slice())?;
+        let is_closed = self.are_closed(arguments.as_slice());
         let found = if is_closed {
             self.types.apply_closed(*constructor, parts.as_slice())?
         } else {
             self.types.apply(*constructor, parts.as_slice())?
         };
-        if is_closed && let Some(closed) = self.closed.get_mut(n as usize) {
-            *closed = Some(found);
-        }
-        reading.read.push(Read { found, is_closed })?;
-        Ok(())
+        self.note_read(n, found, is_closed)
     }
 
-    // Whether a type constructor takes so many arguments.
-    fn takes(&self, constructor: u32, count: usize) -> bool {
-        match self.tables.type_rows.get(constructor as usize) {
-            Some(row) => constructor == TUPLE || row.parameters.len() == count,
-            None => false,
-        }
+    fn found_all(&self, arguments: &[u32]) -> Result<Vec<u32>, AllocError>
+        ensures { IfOk result (λ parts. parts.items ≡ map (found_of self.now.read) arguments.now) }
+    {
+        arguments
+            .iter()
+            .map(|n| self.found(*n))
+            .collect(self.types.alloc())
     }
 
-    fn type_variable(&mut self, variables: Variables, v: u32) -> Result<u32, AllocError> {
+    fn are_closed(&self, arguments: &[u32]) -> bool
+        ensures { result ≡ list_all (read_before self.now.read) arguments.now }
+    {
+        arguments.iter().all(|n| self.is_closed(*n))
+    }
+
+    fn note_read(&mut self, n: u32, found: u32, is_closed: bool) -> Result<(), AllocError>
+        ensures { OnOk result (self.new ≡ noted_read n found is_closed self.old) }
+    {
+        self.read.set(n, Read { found, is_closed })
+    }
+
+    fn type_variable(&mut self, variables: Variables, v: u32) -> Result<u32, AllocError>
+        ensures { IfOk result (λ found. type_variable variables v self.old ≡ gives found self.new) }
+    {
         match variables {
             Variables::OfItem => self.item_variable(v),
-            Variables::Parameters { first, count } if v < count => {
-                first.checked_add(v).ok_or(AllocError)
+            Variables::Parameters { first, count } => {
+                if v < count {
+                    Ok(first.saturating_add(v))
+                } else {
+                    self.variable()
+                }
             }
-            Variables::Parameters { .. } => self.types.variable(),
         }
     }
 
     // The type of a type variable of the item.
-    fn item_variable(&mut self, v: u32) -> Result<u32, AllocError> {
-        if let Some(Some(known)) = self.variables.get(v as usize)
+    fn item_variable(&mut self, v: u32) -> Result<u32, AllocError>
+        ensures { IfOk result (λ found. item_variable v self.old ≡ gives found self.new) }
+    {
+        if let Some(known) = self.variables.get(v)
             && known.item == self.item
         {
             return Ok(known.found);
         }
-        let found = self.types.variable()?;
+        let found = self.variable()?;
         self.set_variable(v, found)?;
         Ok(found)
+    }
+}
+
+// Written types to be read, in their order.
+fn enter_each(alloc: Global, arguments: &[u32]) -> Result<Vec<Visit>, AllocError>
+    ensures { IfOk result (λ visits. visits.items ≡ map (λ n. Visit.Enter n) arguments.now) }
+{
+    arguments.iter().map(|n| Visit::Enter(*n)).collect(alloc)
+}
+
+// Whether a type constructor takes so many arguments.
+fn takes(arena: &CoreArena, constructor: u32, count: usize) -> bool
+    ensures { result ≡ takes arena.now constructor count }
+{
+    match arena.type_rows().get(constructor as usize) {
+        Some(row) => constructor == TUPLE || row.parameters.len() == count,
+        None => false,
     }
 }
