@@ -1,6 +1,9 @@
 -- What inference answers.
-use Rattle.std.specs.Prelude.{◌≡◌, ℕ, zero, suc, ◌+◌, ◌-◌, ◌/◌, nat_le, min, Bool, true, false, List, [], ◌∷◌, reverse, IsPermutation, Option, Some, None, Result, Ok, Err, if◌then◌else◌}
+use Rattle.std.specs.Prelude.{◌≡◌, ℕ, zero, suc, ◌+◌, ◌-◌, ◌/◌, nat_le, min, Bool, true, false, List, [], ◌∷◌, reverse, IsPermutation, IsSorted, Option, Some, None, Result, Ok, Err, if◌then◌else◌}
 use Rattle.std.specs.List.{list_any}
+use Rattle.std.specs.List.Sorted.{IsStable}
+use Rattle.std.specs.Ordering.{nat_cmp, ordering_then}
+use Rattle.std.specs.declared.cmp.Ordering.{Ordering}
 use Rattle.fx_base.specs.declared.refusal.Place.{Place}
 use Rattle.fx_base.specs.declared.refusal.Refusal.{Refusal}
 use Rattle.fx_base.specs.declared.refusal.Refusal.TheVariants as refusal
@@ -104,10 +107,17 @@ ended_verdict p s order _ = sized_verdict p s order (all_counted s.types)
 abbrev pub verdict : Parts → Inference → List Compared → Result (List BaseTy) Fault
 verdict p s order = ended_verdict p s order s.end
 
--- the verdict on a program, with its comparisons in some order
+-- the order of comparisons in the text: item by item, and in an item by their places
+abbrev pub text_cmp : Compared → Compared → Ordering
+text_cmp a b =
+    ordering_then (ordering_then (nat_cmp a.item b.item) (nat_cmp a.place.line b.place.line)) (nat_cmp a.place.column b.place.column)
+
+-- the verdict on a program, with its comparisons in the order of the text; those at one place stay in their order
 pub record IsVerdict (p : Parts) (r : Result (List BaseTy) Fault) : Type 0 where
   pub order : List Compared
-  pub orders : IsPermutation (reverse (walked p 18446744073709551615).comparisons) order
+  pub elements : IsPermutation (reverse (walked p 18446744073709551615).comparisons) order
+  pub sorted : IsSorted text_cmp order
+  pub stable : IsStable text_cmp (reverse (walked p 18446744073709551615).comparisons) order
   pub is : r ≡ verdict p (walked p 18446744073709551615) order
 
 -- a refusal for its types is the verdict on the program

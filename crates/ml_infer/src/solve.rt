@@ -1,8 +1,9 @@
 //! From a program in Core to the types of its comparisons.
 
-ghost use Rattle.std.specs.Prelude.{◌≡◌, Ok, IfErr, IfOk, IsPermutation, reverse};
+ghost use Rattle.std.specs.Prelude.{◌≡◌, Ok, IfErr, IfOk, IsPermutation, IsSorted, reverse};
+ghost use Rattle.std.specs.List.Sorted.{IsStable};
 ghost use Rattle.ml_infer.specs.Refused.{IsTypeOrMemory};
-ghost use Rattle.ml_infer.specs.Verdict.{IsFault, IsVerdict, base_of, bases, first_fault, halved, halvings, has_large, is_finite, verdict, walked};
+ghost use Rattle.ml_infer.specs.Verdict.{IsFault, IsVerdict, base_of, bases, first_fault, halved, halvings, has_large, is_finite, text_cmp, verdict, walked};
 
 use crate::inference::{Compared, End, Inference};
 use effect_meaning::{Core, CoreArena, Sequence};
@@ -134,14 +135,21 @@ fn bases(
     Ok(Ok(Sequence::from_vec(found)))
 }
 
+// Where a comparison stands: its item, and its place there.
+fn text_key(compared: &Compared) -> (usize, u32, u32)
+    ensures { result ≡ (compared.now.item, compared.now.place.line, compared.now.place.column) }
+{
+    (compared.item, compared.place.line, compared.place.column)
+}
+
 // The comparisons in the order of the text: item by item, and in an item by their places.
 fn in_text(alloc: Global, walk: &Inference) -> Result<Vec<Compared>, AllocError>
-    ensures { IfOk result (λ order. IsPermutation (reverse walk.now.comparisons) order.items) }
+    ensures elements { IfOk result (λ order. IsPermutation (reverse walk.now.comparisons) order.items) }
+    ensures sorted { IfOk result (λ order. IsSorted text_cmp order.items) }
+    ensures stable { IfOk result (λ order. IsStable text_cmp (reverse walk.now.comparisons) order.items) }
 {
     let mut comparisons = Vec::from_slice(alloc, walk.comparisons.as_slice())?;
-    comparisons.sort_by_key(|compared| {
-        (compared.item, compared.place.line, compared.place.column)
-    })?;
+    comparisons.sort_by_key(text_key)?;
     Ok(comparisons)
 }
 
