@@ -35,8 +35,8 @@ done
 echo "type_dump: anyhow fx_base ml_lexer ml_syntax ml_parser effect_meaning core_terms ml_infer" >> "$workspace/crates.txt"
 infer=$workspace/crates/ml_infer/src
 cp "$top/tools/type_dump/shown.rt.txt" "$infer/shown.rt"
-sed -i 's/^mod solve;/mod shown;\nmod solve;/; s/^pub use solve::infer;/pub use shown::{Shown, show};\npub use solve::infer;/' "$infer/lib.rt"
-sed -i 's/^fn walk(/pub fn walk(/; s/^fn answer(/pub fn answer(/' "$infer/solve.rt"
+sed -i 's/^mod verdict;/mod shown;\nmod verdict;/; s/^pub use verdict::infer;/pub use shown::{Shown, show};\npub use verdict::infer;/' "$infer/lib.rt"
+sed -i 's/^fn walk(/pub fn walk(/; s/^fn answer(/pub fn answer(/' "$infer/verdict.rt"
 rm -rf "$workspace/crates/type_dump"
 mkdir -p "$workspace/crates/type_dump/src"
 # in the repository its sources are no sources of a crate

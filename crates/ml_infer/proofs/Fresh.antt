@@ -2,8 +2,8 @@
 use Rattle.std.proofs.Common.{◌≡◌, ℕ, suc, List, [], ◌∷◌, ◌++◌, sym, ap, ◌∙◌, append_assoc}
 use Rattle.std.proofs.lemmas.List.{append-nil}
 use Rattle.ml_infer.specs.declared.inference.Inference.{Inference}
-use Rattle.ml_infer.specs.State.{With, valued, Gives, gives, new_variable}
-use Rattle.ml_infer.specs.Constructed.{with_first, new_variables}
+use Rattle.ml_infer.specs.Inference.{With, valued, Gives, gives, new_variable}
+use Rattle.ml_infer.specs.Constructors.{with_first, new_variables}
 
 -- types before others
 abbrev pub behind : List ℕ → With (List ℕ) → With (List ℕ)

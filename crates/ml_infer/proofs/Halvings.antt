@@ -1,7 +1,7 @@
 -- Halvings, one by one.
 use Rattle.std.proofs.Common.{◌≡◌, ℕ, suc, refl}
 use Rattle.effect_meaning.specs.Arena.{Parts}
-use Rattle.ml_infer.specs.declared.solve.Span.{Span}
+use Rattle.ml_infer.specs.declared.verdict.Span.{Span}
 use Rattle.ml_infer.specs.Verdict.{halved, halvings}
 
 -- none is left

@@ -1,7 +1,7 @@
 -- Rows that belong to types, one by one.
 use Rattle.std.proofs.Common.{◌≡◌, ℕ, suc, ◌+◌, ◌<◌, ◌≤◌, List, ◌∷◌, length, drop, get_or, refl, arith}
 use Rattle.std.proofs.Math.Seq.{drop-length, drop-cons}
-use Rattle.ml_infer.specs.Belonging.{no_members, member_added, belonging}
+use Rattle.ml_infer.specs.Members.{no_members, member_added, belonging}
 
 -- no row is behind the last one
 pub none_belongs : (ts : List ℕ) → belonging (length ts) (drop (length ts) ts) ≡ no_members

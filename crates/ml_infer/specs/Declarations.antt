@@ -9,8 +9,8 @@ use Rattle.type_graph.specs.Graph.{form_of, is_of}
 use Rattle.ml_infer.specs.declared.inference.Inference.{Inference}
 use Rattle.ml_infer.specs.declared.tasks.Task.TheVariants as task
 use Rattle.ml_infer.specs.declared.written.Variables.{Variables}
-use Rattle.ml_infer.specs.Belonging.{first_of, next_of}
-use Rattle.ml_infer.specs.Constructed.{closed, declared_argument, instance}
+use Rattle.ml_infer.specs.Members.{first_of, next_of}
+use Rattle.ml_infer.specs.Constructors.{closed, declared_argument, instance}
 use Rattle.ml_infer.specs.Tasks.{first, first_one}
 use Rattle.ml_infer.specs.Written.{written, refused_unless}
 

@@ -18,10 +18,10 @@ use Rattle.ml_infer.specs.declared.tasks.Task.TheVariants as task
 use Rattle.ml_infer.specs.declared.tasks.Handling.{Handling}
 use Rattle.ml_infer.specs.declared.tasks.HandlerClause.{HandlerClause}
 use Rattle.ml_infer.specs.declared.written.Variables.TheVariants as variables
-use Rattle.ml_infer.specs.State.{With, valued, Gives, gives, equated, new_variable, of_one_type, refused, variable_noted}
+use Rattle.ml_infer.specs.Inference.{With, valued, Gives, gives, equated, new_variable, of_one_type, refused, variable_noted}
 use Rattle.ml_infer.specs.Tasks.{first, first_one, term_tasks}
 use Rattle.ml_infer.specs.Written.{annotated_if, written}
-use Rattle.ml_infer.specs.Constructed.{answer_of, constructed}
+use Rattle.ml_infer.specs.Constructors.{answer_of, constructed}
 use Rattle.ml_infer.specs.Patterns.{whole_pattern}
 
 -- a clause of a handler, as it is kept in a task

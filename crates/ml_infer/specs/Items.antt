@@ -13,7 +13,7 @@ use Rattle.ml_infer.specs.declared.inference.Inference.{Inference}
 use Rattle.ml_infer.specs.declared.inference.End.{End}
 use Rattle.ml_infer.specs.declared.inference.NameType.TheVariants as name
 use Rattle.ml_infer.specs.declared.tasks.Task.TheVariants as task
-use Rattle.ml_infer.specs.State.{Gives, name_noted, of_one_type, one_type, taken}
+use Rattle.ml_infer.specs.Inference.{Gives, name_noted, of_one_type, one_type, taken}
 use Rattle.ml_infer.specs.Tasks.{first, first_one}
 use Rattle.ml_infer.specs.Written.{refused_unless}
 use Rattle.ml_infer.specs.Declarations.{exception_declared}

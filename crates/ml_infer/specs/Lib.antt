@@ -1,12 +1,12 @@
-pub mod Belonging
-pub mod Constructed
+pub mod Constructors
 pub mod Declarations
 pub mod Handlers
+pub mod Inference
 pub mod Items
 pub mod Known
+pub mod Members
 pub mod Patterns
 pub mod Refused
-pub mod State
 pub mod Tasks
 pub mod Terms
 pub mod Verdict

@@ -19,10 +19,10 @@ use Rattle.ml_infer.specs.declared.tasks.Task.{Task}
 use Rattle.ml_infer.specs.declared.tasks.Task.TheVariants as task
 use Rattle.ml_infer.specs.declared.written.Variables.{Variables}
 use Rattle.ml_infer.specs.Known.{known}
-use Rattle.ml_infer.specs.State.{With, Gives, gives, equated, given_back, new_name, new_variable, pattern_place, refused, taken}
+use Rattle.ml_infer.specs.Inference.{With, Gives, gives, equated, given_back, new_name, new_variable, pattern_place, refused, taken}
 use Rattle.ml_infer.specs.Tasks.{first, first_one}
 use Rattle.ml_infer.specs.Written.{refused_unless}
-use Rattle.ml_infer.specs.Constructed.{constant_row, constructed, field_owner, field_type, instance, is_owner, new_variables, unhandled}
+use Rattle.ml_infer.specs.Constructors.{constant_row, constructed, field_owner, field_type, instance, is_owner, new_variables, unhandled}
 
 -- a whole pattern that has a type: the names that it binds are new
 abbrev pub whole_pattern : (q t : ℕ) → Inference → Inference

@@ -18,12 +18,12 @@ use Rattle.ml_infer.specs.declared.inference.Inference.{Inference}
 use Rattle.ml_infer.specs.declared.tasks.Task.TheVariants as task
 use Rattle.ml_infer.specs.declared.tasks.GroupFunction.{GroupFunction}
 use Rattle.ml_infer.specs.declared.written.Variables.{Variables}
-use Rattle.ml_infer.specs.Belonging.{count_of}
+use Rattle.ml_infer.specs.Members.{count_of}
 use Rattle.ml_infer.specs.Known.{known, noted}
-use Rattle.ml_infer.specs.State.{With, valued, Gives, gives, equated, given_back, new_name, new_variable, one_type, refused, taken, term_place, type_of_name}
+use Rattle.ml_infer.specs.Inference.{With, valued, Gives, gives, equated, given_back, new_name, new_variable, one_type, refused, taken, term_place, type_of_name}
 use Rattle.ml_infer.specs.Tasks.{first, first_one, term_tasks}
 use Rattle.ml_infer.specs.Written.{annotated_if, refused_unless}
-use Rattle.ml_infer.specs.Constructed.{constant_row, constructed, field_owner, field_type, instance, is_owner, new_variables, unhandled}
+use Rattle.ml_infer.specs.Constructors.{constant_row, constructed, field_owner, field_type, instance, is_owner, new_variables, unhandled}
 use Rattle.ml_infer.specs.Patterns.{give_found, tuple_given}
 use Rattle.ml_infer.specs.Handlers.{handled}
 

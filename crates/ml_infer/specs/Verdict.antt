@@ -18,10 +18,10 @@ use Rattle.ml_infer.specs.declared.inference.Compared.{Compared}
 use Rattle.ml_infer.specs.declared.inference.End.{End}
 use Rattle.ml_infer.specs.declared.inference.End.TheVariants as ends
 use Rattle.ml_infer.specs.declared.inference.Inference.{Inference}
-use Rattle.ml_infer.specs.declared.solve.Fault.{Fault}
-use Rattle.ml_infer.specs.declared.solve.Fault.TheVariants as fault
-use Rattle.ml_infer.specs.declared.solve.Span.{Span}
-use Rattle.ml_infer.specs.State.{begun}
+use Rattle.ml_infer.specs.declared.verdict.Fault.{Fault}
+use Rattle.ml_infer.specs.declared.verdict.Fault.TheVariants as fault
+use Rattle.ml_infer.specs.declared.verdict.Span.{Span}
+use Rattle.ml_infer.specs.Inference.{begun}
 use Rattle.ml_infer.specs.Items.{items_taken}
 
 -- the walk over a program that takes at most so many equations

@@ -5,7 +5,7 @@ use Rattle.ml_infer.specs.declared.inference.Inference.{Inference}
 use Rattle.ml_infer.specs.declared.inference.End.{End}
 use Rattle.ml_infer.specs.declared.tasks.Task.{Task}
 use Rattle.ml_infer.specs.declared.tasks.Task.TheVariants as task
-use Rattle.ml_infer.specs.State.{equated, given_back, of_one_type, pattern_place, taken, term_place}
+use Rattle.ml_infer.specs.Inference.{equated, given_back, of_one_type, pattern_place, taken, term_place}
 use Rattle.ml_infer.specs.Tasks.{first}
 use Rattle.ml_infer.specs.Declarations.{effect_declared, field_declared, type_declared, variant_declared}
 use Rattle.ml_infer.specs.Patterns.{alias, clause, clauses, field_pattern, pattern}

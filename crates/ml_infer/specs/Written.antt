@@ -15,7 +15,7 @@ use Rattle.ml_infer.specs.declared.written.Variables.TheVariants as variables
 use Rattle.ml_infer.specs.declared.written.Visit.{Visit}
 use Rattle.ml_infer.specs.declared.written.Visit.TheVariants as visit
 use Rattle.ml_infer.specs.Known.{known, noted}
-use Rattle.ml_infer.specs.State.{Gives, gives, equated, new_variable, refused, variable_noted}
+use Rattle.ml_infer.specs.Inference.{Gives, gives, equated, new_variable, refused, variable_noted}
 
 -- what a written type was read as
 abbrev pub found_of : List (Option Read) → ℕ → ℕ

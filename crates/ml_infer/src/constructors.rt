@@ -1,8 +1,8 @@
 //! The types of constructors and fields.
 
 ghost use Rattle.std.specs.Prelude.{◌≡◌, OnOk, IfOk};
-ghost use Rattle.ml_infer.specs.State.{gives, valued};
-ghost use Rattle.ml_infer.specs.Constructed.{answer_of, constant_row, constructed, constructed_effect, constructed_exception, constructed_unknown, constructed_variant, declared_argument, field_owner, field_type, instance, is_owner, new_variables, parameter_count, unhandled};
+ghost use Rattle.ml_infer.specs.Inference.{gives, valued};
+ghost use Rattle.ml_infer.specs.Constructors.{answer_of, constant_row, constructed, constructed_effect, constructed_exception, constructed_unknown, constructed_variant, declared_argument, field_owner, field_type, instance, is_owner, new_variables, parameter_count, unhandled};
 
 use crate::inference::Inference;
 use crate::written::Variables;
@@ -133,7 +133,7 @@ impl Inference {
     }
 
     /// The types of a use of a constructor.
-    #[tactic(auto, unfolding(crate::specs::Constructed::constructed))]
+    #[tactic(auto, unfolding(crate::specs::Constructors::constructed))]
     pub fn constructed(
         &mut self,
         arena: &CoreArena,

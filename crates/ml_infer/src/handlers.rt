@@ -1,7 +1,7 @@
 //! The equations of handlers.
 
 ghost use Rattle.std.specs.Prelude.{◌≡◌, map, OnOk, IfOk};
-ghost use Rattle.ml_infer.specs.State.{gives, valued};
+ghost use Rattle.ml_infer.specs.Inference.{gives, valued};
 ghost use Rattle.ml_infer.specs.Handlers.{continuation_type, effect_clause, effect_clauses, handled, handler_clause, handler_parts, new_handling, no_clause, resumption, subject_type, types_entered};
 
 use crate::inference::Inference;

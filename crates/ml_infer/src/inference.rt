@@ -4,7 +4,7 @@
 //! it.
 
 ghost use Rattle.std.specs.Prelude.{◌≡◌, OnOk, IfOk};
-ghost use Rattle.ml_infer.specs.State.{begun, equated, given_back, gives, name_noted, new_name, new_variable, of_one_type, one_type, pattern_place, refused, taken, term_place, type_of_name, variable_noted};
+ghost use Rattle.ml_infer.specs.Inference.{begun, equated, given_back, gives, name_noted, new_name, new_variable, of_one_type, one_type, pattern_place, refused, taken, term_place, type_of_name, variable_noted};
 
 use crate::known::Known;
 use crate::members::{Members, fields_of, variants_of};

@@ -1,7 +1,7 @@
 //! The equations of items, and which names are generalised.
 
 ghost use Rattle.std.specs.Prelude.{◌≡◌, map, OnOk, IfOk};
-ghost use Rattle.ml_infer.specs.State.{gives};
+ghost use Rattle.ml_infer.specs.Inference.{gives};
 ghost use Rattle.ml_infer.specs.Items.{defined, defined_rec, destructured, effects_declared, generalised, generalised_each, is_function_at, item_of, item_taken, items_taken, literal, literal_at, term_found, types_declared};
 
 use crate::inference::{Inference, NameType};

@@ -1,7 +1,7 @@
 //! Which rows of a table belong to each type.
 
 ghost use Rattle.std.specs.Prelude.{◌≡◌, map, OnOk, IfOk};
-ghost use Rattle.ml_infer.specs.Belonging.{belonging, count_of, first_of, member_added, next_of, no_members};
+ghost use Rattle.ml_infer.specs.Members.{belonging, count_of, first_of, member_added, next_of, no_members};
 
 use crate::known::Known;
 use effect_meaning::CoreArena;

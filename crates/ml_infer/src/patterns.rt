@@ -1,7 +1,7 @@
 //! The equations of patterns and of clauses.
 
 ghost use Rattle.std.specs.Prelude.{◌≡◌, map, zip, OnOk, IfOk};
-ghost use Rattle.ml_infer.specs.State.{gives};
+ghost use Rattle.ml_infer.specs.Inference.{gives};
 ghost use Rattle.ml_infer.specs.Patterns.{alias, bound, clause, clause_task, clauses, clauses_of, constructor_pattern, field_pattern, field_pattern_task, first_clauses, is_any, joined_pattern, pattern, pattern_of, record_pattern, tuple_pattern, whole_pattern};
 
 use crate::constructors::{constant_type, field_owner, is_owner, is_unhandled};

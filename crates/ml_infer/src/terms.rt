@@ -1,7 +1,7 @@
 //! The equations of terms.
 
 ghost use Rattle.std.specs.Prelude.{◌≡◌, map, OnOk, IfOk};
-ghost use Rattle.ml_infer.specs.State.{valued};
+ghost use Rattle.ml_infer.specs.Inference.{valued};
 ghost use Rattle.ml_infer.specs.Terms.{agreed, annotated, application, array, compared, construct, data_term, end_function, field_is, function_begun, functions_first, group_function, is_mutable, lambda, match_term, names_each, names_new, new_names, plain_term, primitive, read_field, record_term, set_field, term, term_of, tuple_term};
 
 use crate::constructors::{constant_type, field_owner, is_owner, is_unhandled};

@@ -2,7 +2,7 @@
 
 ghost use Rattle.std.specs.Prelude.{◌≡◌, ◌++◌, map, OnOk, IfOk};
 ghost use Rattle.std.specs.List.{list_all};
-ghost use Rattle.ml_infer.specs.State.{gives};
+ghost use Rattle.ml_infer.specs.Inference.{gives};
 ghost use Rattle.ml_infer.specs.Written.{annotated_if, entered, found_of, item_variable, left, noted_read, read_before, reading, takes, type_variable, visited, visited_one, written};
 
 use crate::inference::{Inference, Read};

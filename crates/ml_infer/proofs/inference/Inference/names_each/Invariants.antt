@@ -1,5 +1,5 @@
 use Rattle.std.proofs.Common.{◌≡◌, drop}
-use Rattle.ml_infer.specs.State.{valued}
+use Rattle.ml_infer.specs.Inference.{valued}
 use Rattle.ml_infer.specs.Terms.{named_each}
 use Rattle.ml_infer.proofs.inference.Inference.names_each.Given as goal
 

@@ -1,5 +1,5 @@
 use Rattle.std.proofs.Common.{◌≡◌, ◌-◌}
-use Rattle.ml_infer.specs.Constructed.{new_variables}
+use Rattle.ml_infer.specs.Constructors.{new_variables}
 use Rattle.ml_infer.proofs.Fresh.{behind}
 use Rattle.ml_infer.proofs.inference.Inference.new_variables.Given as goal
 

@@ -1,5 +1,5 @@
 use Rattle.std.proofs.Common.{◌≡◌, drop}
-use Rattle.ml_infer.specs.Belonging.{belonging}
+use Rattle.ml_infer.specs.Members.{belonging}
 use Rattle.ml_infer.proofs.members.Members.new.Given as goal
 
 -- the rows from here on belong to their types

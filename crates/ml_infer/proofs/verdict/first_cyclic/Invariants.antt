@@ -1,6 +1,6 @@
 use Rattle.std.proofs.Common.{◌≡◌, ◌-◌}
 use Rattle.ml_infer.specs.Verdict.{halvings}
-use Rattle.ml_infer.proofs.solve.first_cyclic.Given as goal
+use Rattle.ml_infer.proofs.verdict.first_cyclic.Given as goal
 
 -- the halvings that are left end where all end
 abbrev pub invariant-loop-halving : goal.invariant-loop-halving

@@ -2,7 +2,7 @@ use Rattle.std.proofs.Common.{◌≡◌, ◌∙◌, ◌+◌, List, drop, slice_i
 use Rattle.ml_infer.specs.declared.inference.Compared.{Compared}
 use Rattle.ml_infer.specs.Verdict.{base_of, bases}
 use Rattle.ml_infer.proofs.Bases.{behind, one_compared, other_compared, one_left, all_compared}
-use Rattle.ml_infer.proofs.solve.bases.Goals as goal
+use Rattle.ml_infer.proofs.verdict.bases.Goals as goal
 
 -- what an index out of range would give
 abbrev nothing : Compared

@@ -16,7 +16,7 @@ use Rattle.ml_infer.specs.declared.constructors.Constructed.{Constructed}
 use Rattle.ml_infer.specs.declared.constructors.Instance.{Instance}
 use Rattle.ml_infer.specs.declared.written.Variables.{Variables}
 use Rattle.ml_infer.specs.declared.written.Variables.TheVariants as variables
-use Rattle.ml_infer.specs.State.{With, valued, Gives, gives, new_variable}
+use Rattle.ml_infer.specs.Inference.{With, valued, Gives, gives, new_variable}
 use Rattle.ml_infer.specs.Written.{written}
 
 -- the row of the type of a constant

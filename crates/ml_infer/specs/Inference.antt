@@ -11,7 +11,7 @@ use Rattle.ml_infer.specs.declared.inference.NameType.TheVariants as name
 use Rattle.ml_infer.specs.declared.inference.End.{End}
 use Rattle.ml_infer.specs.declared.inference.End.TheVariants as ends
 use Rattle.ml_infer.specs.Known.{known, noted}
-use Rattle.ml_infer.specs.Belonging.{belonging}
+use Rattle.ml_infer.specs.Members.{belonging}
 
 -- a type that is found, and the state behind that
 pub record Gives : Type 0 where

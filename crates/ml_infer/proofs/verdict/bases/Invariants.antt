@@ -1,7 +1,7 @@
 use Rattle.std.proofs.Common.{◌≡◌, drop}
 use Rattle.ml_infer.specs.Verdict.{bases}
 use Rattle.ml_infer.proofs.Bases.{behind}
-use Rattle.ml_infer.proofs.solve.bases.Given as goal
+use Rattle.ml_infer.proofs.verdict.bases.Given as goal
 
 -- the types that are found and those that are left are all
 abbrev pub invariant-loop-comparison : goal.invariant-loop-comparison

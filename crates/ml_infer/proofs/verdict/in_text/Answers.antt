@@ -3,7 +3,7 @@ use Rattle.std.specs.List.Sorted.{IsStable}
 use Rattle.std.proofs.lemmas.List.Sorted.{answers_always}
 use Rattle.ml_infer.specs.declared.inference.Compared.{Compared}
 use Rattle.ml_infer.specs.Verdict.{text_cmp}
-use Rattle.ml_infer.proofs.solve.in_text.Goals as goal
+use Rattle.ml_infer.proofs.verdict.in_text.Goals as goal
 
 -- where a comparison stands
 abbrev key : Compared → ℕ × ℕ × ℕ

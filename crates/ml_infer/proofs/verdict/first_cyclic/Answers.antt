@@ -1,7 +1,7 @@
 use Rattle.std.proofs.Common.{◌∙◌, ◌-◌, ◌+◌, sym, ap, arith}
-use Rattle.ml_infer.specs.declared.solve.Span.{Span}
+use Rattle.ml_infer.specs.declared.verdict.Span.{Span}
 use Rattle.ml_infer.proofs.Halvings.{halved_none, halved_once}
-use Rattle.ml_infer.proofs.solve.first_cyclic.Goals as goal
+use Rattle.ml_infer.proofs.verdict.first_cyclic.Goals as goal
 
 pub loop-halving-preserved : goal.loop-halving-preserved
 loop-halving-preserved c =
