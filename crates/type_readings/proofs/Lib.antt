@@ -1,0 +1,18 @@
+mod Lists
+mod Forms
+mod Rows
+mod Merging
+mod Ranks
+mod Behind
+mod Steps
+pub mod Making
+pub mod Starting
+pub mod Opening
+pub mod Unification
+mod Trees
+mod Counting
+mod Cycles
+mod Finishing
+pub mod Sizing
+pub mod Alike
+pub mod Copying

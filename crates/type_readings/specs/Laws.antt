@@ -1,0 +1,112 @@
+-- The laws of graphs, of unification, of most general readings, and of the sizes of types.
+use Rattle.std.specs.Prelude.{◌≡◌, ◌↔◌, ℕ, ◌+◌, ◌*◌, ◌≤◌, ◌<◌, Some, None, Bool, true, false, IsTrue, List, [], ◌∷◌, length}
+use Rattle.type_terms.specs.TypeTrees.{Ty, Constructed, instance_of}
+use Rattle.type_graph.specs.Copied.{copied, copy_is}
+use Rattle.type_graph.specs.Graph.{Graph, node_at, built_in, variable_added, applied}
+use Rattle.type_graph.specs.Outer.{made_outer, item_ended}
+use Rattle.type_graph.specs.Sized.{Counting, all_counted}
+use Rattle.type_graph.specs.Unified.{unified, unified_is}
+use Rattle.type_readings.specs.Readings.{trees_of, Reads, LeavesOpen, HasSizes, AllEqual}
+use Rattle.type_readings.specs.WellFormed.{AreNumbers, ArePairs, IsWellFormed}
+
+-- the built-in types are a well-formed graph
+abbrev pub BuiltInIsWellFormed : Type 0
+BuiltInIsWellFormed = IsWellFormed built_in
+
+-- a graph with a new variable is well formed, where there may be one more type
+abbrev pub VariableKeepsForm : Type 0
+VariableKeepsForm = (g : Graph) → IsWellFormed g → length g.nodes < 33554432 → IsWellFormed (variable_added g)
+
+-- and read by what reads the graph
+abbrev pub VariableAsksNothing : Type 0
+VariableAsksNothing = (g : Graph) (f : ℕ → Ty) → IsWellFormed g → Reads f (variable_added g) ↔ Reads f g
+
+-- a graph with a type constructor and its arguments is well formed, where there may be that many
+abbrev pub ApplicationKeepsForm : Type 0
+ApplicationKeepsForm =
+    (c : ℕ) (ns : List ℕ) (outer : Bool) (g : Graph) → IsWellFormed g → AreNumbers (length g.nodes) ns → length g.nodes < 33554432
+    → length g.arguments + length ns ≤ 67108864 → IsWellFormed (applied c ns outer g)
+
+-- and read by what reads the graph and gives the new number the type constructor with the trees of its arguments
+abbrev pub ApplicationIsRead : Type 0
+ApplicationIsRead =
+    (c : ℕ) (ns : List ℕ) (outer : Bool) (g : Graph) (f : ℕ → Ty) → IsWellFormed g
+    → Reads f (applied c ns outer g) ↔ (Reads f g × (f (length g.nodes) ≡ Constructed c (trees_of f ns)))
+
+-- a graph of which types become outer is well formed
+abbrev pub OuterKeepsForm : Type 0
+OuterKeepsForm = (steps : ℕ) (ns : List ℕ) (g : Graph) → IsWellFormed g → IsWellFormed (made_outer steps ns g)
+
+-- and read by what reads the graph
+abbrev pub OuterAsksNothing : Type 0
+OuterAsksNothing = (steps : ℕ) (ns : List ℕ) (g : Graph) (f : ℕ → Ty) → Reads f (made_outer steps ns g) ↔ Reads f g
+
+-- at the end of an item a graph stays well formed
+abbrev pub EndKeepsForm : Type 0
+EndKeepsForm = (g : Graph) → IsWellFormed g → IsWellFormed (item_ended g)
+
+-- and is read by the same
+abbrev pub EndAsksNothing : Type 0
+EndAsksNothing = (g : Graph) (f : ℕ → Ty) → Reads f (item_ended g) ↔ Reads f g
+
+-- behind a copy, what was known of each type that was there is known of it
+abbrev pub CopyKeepsTypes : Type 0
+CopyKeepsTypes =
+    (n c : ℕ) (g h : Graph) → copied n g ≡ copy_is c h → (m : ℕ) → m < length g.nodes → (node_at h.nodes m).form ≡ (node_at g.nodes m).form
+
+-- what reads the graph behind a copy reads the graph before
+abbrev pub CopyKeepsReadings : Type 0
+CopyKeepsReadings = (n c : ℕ) (g h : Graph) (f : ℕ → Ty) → IsWellFormed g → copied n g ≡ copy_is c h → Reads f h → Reads f g
+
+-- behind pairs that were made equal, or that clashed, a graph is as well formed as before
+abbrev pub KeepsForm : Type 0
+KeepsForm =
+    (steps : ℕ) (ps : List (ℕ × ℕ)) (g h : Graph) (fits : Bool) → IsWellFormed g → ArePairs (length g.nodes) ps
+    → unified steps ps g ≡ unified_is fits h → IsWellFormed h
+
+-- types and arguments aren't more or fewer then
+abbrev pub KeepsNumbers : Type 0
+KeepsNumbers =
+    (steps : ℕ) (ps : List (ℕ × ℕ)) (g h : Graph) (fits : Bool)
+    → unified steps ps g ≡ unified_is fits h → (length h.nodes ≡ length g.nodes) × (h.arguments ≡ g.arguments)
+
+-- what reads the graph behind pairs that were made equal reads the graph before, and makes each pair equal
+abbrev pub Equates : Type 0
+Equates =
+    (steps : ℕ) (ps : List (ℕ × ℕ)) (g h : Graph) (f : ℕ → Ty) → IsWellFormed g → ArePairs (length g.nodes) ps
+    → unified steps ps g ≡ unified_is true h → Reads f h → Reads f g × AllEqual f ps
+
+-- what reads the graph before and makes each pair equal reads the graph behind: none is lost
+abbrev pub LosesNone : Type 0
+LosesNone =
+    (steps : ℕ) (ps : List (ℕ × ℕ)) (g h : Graph) (f : ℕ → Ty) → IsWellFormed g → ArePairs (length g.nodes) ps
+    → unified steps ps g ≡ unified_is true h → Reads f g → AllEqual f ps → Reads f h
+
+-- where pairs can't be made equal in that many steps, nothing that reads the graph makes them equal
+abbrev pub RefusesRightly : Type 0
+RefusesRightly =
+    (steps : ℕ) (ps : List (ℕ × ℕ)) (g h : Graph) (f : ℕ → Ty) → IsWellFormed g → ArePairs (length g.nodes) ps
+    → length ps + length g.nodes * length g.arguments ≤ steps
+    → unified steps ps g ≡ unified_is false h → Reads f g → AllEqual f ps → ⊥
+
+-- in as many steps as there may be, two types are made equal where something that reads the graph does so, and not where nothing
+-- does; and the same reads the graph behind
+abbrev pub DecidesPair : Type 0
+DecidesPair =
+    (a b : ℕ) (g h : Graph) (fits : Bool) (f : ℕ → Ty) → IsWellFormed g → a < length g.nodes → b < length g.nodes
+    → unified 18446744073709551615 ((a, b) ∷ []) g ≡ unified_is fits h
+    → (Reads f g × (f a ≡ f b)) ↔ (IsTrue fits × Reads f h)
+
+-- each reading is an instance of one that leaves variables open: the trees of these stand for the type variables
+abbrev pub OpenIsMostGeneral : Type 0
+OpenIsMostGeneral =
+    (g : Graph) (f k : ℕ → Ty) → IsWellFormed g → Reads f g → LeavesOpen f g → Reads k g → (n : ℕ) → k n ≡ instance_of k (f n)
+
+-- where all types are counted, there is a reading that leaves variables open, and the sizes are those of its trees
+abbrev pub CountedIsRead : Type 0
+CountedIsRead =
+    (g : Graph) (s : Counting) → IsWellFormed g → all_counted g ≡ Some s → (f : ℕ → Ty) × Reads f g × LeavesOpen f g × HasSizes f g s
+
+-- where they can't be, since one is a part of itself, nothing reads the graph
+abbrev pub UncountedIsUnread : Type 0
+UncountedIsUnread = (g : Graph) (f : ℕ → Ty) → IsWellFormed g → all_counted g ≡ None → Reads f g → ⊥
