@@ -5,6 +5,7 @@ use Rattle.effect_meaning.specs.Arena.{Parts}
 use Rattle.type_graph.specs.Graph.{built_in, variable_added}
 use Rattle.type_graph.specs.Unified.{Unified, unified}
 use Rattle.type_graph.specs.Copied.{copied}
+use Rattle.type_graph.specs.Outer.{item_ended}
 use Rattle.ml_infer.specs.declared.inference.Inference.{Inference}
 use Rattle.ml_infer.specs.declared.inference.NameType.{NameType}
 use Rattle.ml_infer.specs.declared.inference.NameType.TheVariants as name
@@ -114,9 +115,9 @@ of_one_type x t s = name_noted x (name.One t s.pattern) s
 abbrev pub new_name : ℕ → Inference → Gives
 new_name x s = let v = new_variable s in gives v.found (of_one_type x v.found v.state)
 
--- a copy of the type of a generalised name
+-- a copy of the type of a generalised name, which shares what the item gave to outer variables so far
 abbrev pub copied_type : ℕ → Inference → Gives
-copied_type t s = let c = copied t s.types in gives c.copy (record s { types = c.types })
+copied_type t s = let c = copied t (item_ended s.types) in gives c.copy (record s { types = c.types })
 
 -- the type of a use of a name: its own, or a copy
 abbrev pub type_of_known : Option NameType → ℕ → Inference → Gives

@@ -4,7 +4,7 @@
 //! it.
 
 ghost use Rattle.std.specs.Prelude.{◌≡◌, OnOk, IfOk};
-ghost use Rattle.ml_infer.specs.Inference.{begun, equated, given_back, gives, name_noted, new_name, new_variable, of_one_type, one_type, pattern_place, refused, taken, term_place, type_of_name, variable_noted};
+ghost use Rattle.ml_infer.specs.Inference.{begun, copied_type, equated, given_back, gives, name_noted, new_name, new_variable, of_one_type, one_type, pattern_place, refused, taken, term_place, type_of_name, variable_noted};
 
 use crate::known::Known;
 use crate::members::{Members, fields_of, variants_of};
@@ -212,13 +212,22 @@ impl Inference {
         Ok(found)
     }
 
+    // A copy of the type of a generalised name. What the item gave to outer variables so far is outer
+    // from here on, so that the copy shares it.
+    fn copy_type(&mut self, found: u32) -> Result<u32, AllocError>
+        ensures { IfOk result (λ copy. copied_type found self.old ≡ gives copy self.new) }
+    {
+        self.types.end_item()?;
+        self.types.copy(found)
+    }
+
     /// The type of a use of a name: its own, or a copy.
     pub fn name_type(&mut self, name: u32) -> Result<u32, AllocError>
         ensures { IfOk result (λ found. type_of_name name self.old ≡ gives found self.new) }
     {
         match self.names.get(name) {
             Some(NameType::One { found, .. }) => Ok(found),
-            Some(NameType::Generalised(found)) => self.types.copy(found),
+            Some(NameType::Generalised(found)) => self.copy_type(found),
             None => self.new_name(name),
         }
     }

@@ -16,11 +16,11 @@ use Rattle.type_readings.proofs.Rows.{leads_still}
 use Rattle.type_readings.proofs.Behind.{if_either}
 
 -- as many nodes, of the same forms and ranks
-record Alike (nodes new : List Node) : Type 0 where
-  long : length new ≡ length nodes
-  forms : (n : ℕ) → (node_at new n).form ≡ (node_at nodes n).form
+pub record Alike (nodes new : List Node) : Type 0 where
+  pub long : length new ≡ length nodes
+  pub forms : (n : ℕ) → (node_at new n).form ≡ (node_at nodes n).form
   ranks : (n : ℕ) → (node_at new n).rank ≡ (node_at nodes n).rank
-  weights : sum_by weight new ≡ sum_by weight nodes
+  pub weights : sum_by weight new ≡ sum_by weight nodes
 
 -- what holds of a node that is set, and of the one that was there
 pub node_set :
@@ -36,7 +36,7 @@ node_set P nodes r x n h k =
     (λ p. subst P (sym (get_or-set_other nodes r n x unknown p.1)) k)
     (eqb_tells n r)
 
-alike_set :
+pub alike_set :
     (nodes : List Node) (r : ℕ) (x : Node) → x.form ≡ (node_at nodes r).form → x.rank ≡ (node_at nodes r).rank
     → Alike nodes (slice_set nodes r x)
 alike_set nodes r x form rank = record {
@@ -87,7 +87,7 @@ module _ (nodes new : List Node) (alike : Alike nodes new) where
       }
 
 -- a root becomes outer
-well_outer : (g : Graph) (r : ℕ) → IsWellFormed g → IsWellFormed (set_node r (outer (node_at g.nodes r)) g)
+pub well_outer : (g : Graph) (r : ℕ) → IsWellFormed g → IsWellFormed (set_node r (outer (node_at g.nodes r)) g)
 well_outer g r well =
     let x = outer (node_at g.nodes r) in
     well_alike g.nodes (slice_set g.nodes r x) (alike_set g.nodes r x refl refl) g refl well

@@ -14,17 +14,17 @@ use Rattle.type_readings.proofs.Making.{of_form_more}
 use Rattle.type_readings.proofs.Alike.{node_set}
 
 -- what is known of each type stays, and types and arguments come behind the others
-record Extends (g h : Graph) : Type 0 where
-  forms : (q : ℕ) → q < length g.nodes → (node_at h.nodes q).form ≡ (node_at g.nodes q).form
-  longer : length g.nodes ≤ length h.nodes
-  more : List ℕ
-  arguments : h.arguments ≡ g.arguments ++ more
+pub record Extends (g h : Graph) : Type 0 where
+  pub forms : (q : ℕ) → q < length g.nodes → (node_at h.nodes q).form ≡ (node_at g.nodes q).form
+  pub longer : length g.nodes ≤ length h.nodes
+  pub more : List ℕ
+  pub arguments : h.arguments ≡ g.arguments ++ more
 
-extends_itself : (g : Graph) → Extends g g
+pub extends_itself : (g : Graph) → Extends g g
 extends_itself g = record { forms = λ q lt. refl; longer = omega arith; more = []; arguments = sym (append-nil g.arguments) }
 
 -- a new type of the form of a type, which knows its copy
-extends_forwarded_new :
+pub extends_forwarded_new :
     (g h : Graph) (r : ℕ) → Extends g h
     → Extends g (set_node r (record (node_at h.nodes r) { copy = length h.nodes }) (added (fresh (node_at h.nodes r).form false) h))
 extends_forwarded_new g h r e =
@@ -46,7 +46,7 @@ extends_forwarded_new g h r e =
       arguments = e.arguments;
     }
 
-extends_forwarded : (g h : Graph) (base n : ℕ) → Extends g h → Extends g (forwarded base n h).types
+pub extends_forwarded : (g h : Graph) (base n : ℕ) → Extends g h → Extends g (forwarded base n h).types
 extends_forwarded g h base n e =
     let r = root h.nodes n in
     let node = node_at h.nodes r in
@@ -56,7 +56,7 @@ extends_forwarded g h base n e =
     (λ t. e)
     (λ t. if_either P (nat_le base node.copy) (copy_is node.copy h) new (λ u. e) (λ u. extends_forwarded_new g h r e))
 
-extends_argument : (g : Graph) (c : Copied) → Extends g c.types → Extends g (with_argument c)
+pub extends_argument : (g : Graph) (c : Copied) → Extends g c.types → Extends g (with_argument c)
 extends_argument g c e = record {
   forms = e.forms;
   longer = e.longer;
@@ -73,7 +73,7 @@ extends_forwarded_argument g h base a place e =
       | Some n ↦ extends_argument g (forwarded base n h) (extends_forwarded g h base n e)
     ]
 
-extends_forwarded_arguments :
+pub extends_forwarded_arguments :
     (g : Graph) (count base : ℕ) (a : Form) (place : ℕ) (h : Graph) → Extends g h → Extends g (forwarded_arguments count base a place h)
 unfolding forwarded_arguments
 extends_forwarded_arguments g zero base a place h e = e
@@ -82,7 +82,7 @@ extends_forwarded_arguments g (suc count) base a place h e =
     (extends_forwarded_argument g h base a place e)
 
 -- a node of the copy is set
-extends_set : (g h : Graph) (at : ℕ) (x : Node) → length g.nodes ≤ at → Extends g h → Extends g (set_node at x h)
+pub extends_set : (g h : Graph) (at : ℕ) (x : Node) → length g.nodes ≤ at → Extends g h → Extends g (set_node at x h)
 extends_set g h at x le e = record {
   forms =
       λ q lt.
@@ -117,7 +117,7 @@ extends_copied_from g (suc steps) base at h le e =
           (extends_arguments_copied g base at node.form node h refl le e)
     ]
 
-extends_copied : (g : Graph) (n : ℕ) → Extends g (copied n g).types
+pub extends_copied : (g : Graph) (n : ℕ) → Extends g (copied n g).types
 extends_copied g n =
     let base = length g.nodes in
     extends_copied_from g (33554432 - base) base base (forwarded base n g).types (omega arith)

@@ -16,3 +16,9 @@ mod Finishing
 pub mod Sizing
 pub mod Alike
 pub mod Copying
+pub mod Forwarding
+pub mod Completing
+pub mod CopyReadings
+pub mod OuterArguments
+pub mod CopyForms
+pub mod Ending

@@ -18,7 +18,7 @@ use Rattle.type_readings.proofs.Lists.{each_appended}
 use Rattle.type_readings.proofs.Rows.{leads_still, weight_at_root}
 
 -- parts of a longer list
-part_of_more : {X : Type 0} (xs ys : List X) (first count : ℕ) → first + count ≤ length xs → part_of (xs ++ ys) first count ≡ part_of xs first count
+pub part_of_more : {X : Type 0} (xs ys : List X) (first count : ℕ) → first + count ≤ length xs → part_of (xs ++ ys) first count ≡ part_of xs first count
 part_of_more xs ys first count h =
     let longer : length (xs ++ ys) ≡ length xs + length ys = length-append xs ys in
     let dropped = drop-append-le first xs ys (omega arith) in
@@ -31,7 +31,7 @@ part_of_more xs ys first count h =
     (leb_tells (first + count) (length xs))
 
 -- the part that comes on top
-part_of_seam : {X : Type 0} (xs ys : List X) → part_of (xs ++ ys) (length xs) (length ys) ≡ ys
+pub part_of_seam : {X : Type 0} (xs ys : List X) → part_of (xs ++ ys) (length xs) (length ys) ≡ ys
 part_of_seam xs ys =
     let longer : length (xs ++ ys) ≡ length xs + length ys = length-append xs ys in
     ⊎_elim
@@ -56,26 +56,26 @@ names_more n xs ys Variable h = tt
 names_more n xs ys (Link l) h = omega arith
 names_more n xs ys (Applied c first count) h = let longer = length-append xs ys in omega arith
 
-numbers_more : (n : ℕ) (ns : List ℕ) → AreNumbers n ns → AreNumbers (suc n) ns
+pub numbers_more : (n : ℕ) (ns : List ℕ) → AreNumbers n ns → AreNumbers (suc n) ns
 numbers_more n [] h = tt
 numbers_more n (x ∷ xs) h = let first = h.0 in (omega arith, numbers_more n xs h.1)
 
-apart_above : (n m : ℕ) → n ≢ m → m < suc n → m < n
+pub apart_above : (n m : ℕ) → n ≢ m → m < suc n → m < n
 apart_above n m h k =
     ⊎_elim (λ p. p.1) (λ p. let same : n ≡ m = omega arith in absurd (h same)) (leb_tells (suc m) n)
 
 -- a node comes on top
 module _ (nodes : List Node) (x : Node) where
-  node_before : (n : ℕ) → n < length nodes → node_at (nodes ++ x ∷ []) n ≡ node_at nodes n
+  pub node_before : (n : ℕ) → n < length nodes → node_at (nodes ++ x ∷ []) n ≡ node_at nodes n
   node_before n h = get_or_append_left nodes (x ∷ []) unknown n h
 
-  node_on_top : node_at (nodes ++ x ∷ []) (length nodes) ≡ x
+  pub node_on_top : node_at (nodes ++ x ∷ []) (length nodes) ≡ x
   node_on_top = get_or-append_seam nodes x [] unknown
 
-  one_longer : length (nodes ++ x ∷ []) ≡ suc (length nodes)
+  pub one_longer : length (nodes ++ x ∷ []) ≡ suc (length nodes)
   one_longer = length-append nodes (x ∷ []) ∙ omega arith
 
-  node_elsewhere : (n : ℕ) → n ≢ length nodes → node_at (nodes ++ x ∷ []) n ≡ node_at nodes n
+  pub node_elsewhere : (n : ℕ) → n ≢ length nodes → node_at (nodes ++ x ∷ []) n ≡ node_at nodes n
   node_elsewhere n h =
       ⊎_elim (λ p. node_before n p.1)
       (λ p.
@@ -115,7 +115,7 @@ module _ (nodes : List Node) (x : Node) where
       is_short = subst (λ k. e.links ≤ k) (sym (same_rank e.end)) e.is_short;
     }
 
-    weighs_more : sum_by weight (nodes ++ x ∷ []) ≡ suc (sum_by weight nodes)
+    pub weighs_more : sum_by weight (nodes ++ x ∷ []) ≡ suc (sum_by weight nodes)
     weighs_more =
         let push = sum_by_push weight nodes x in
         let one = weight_at_root x rx in
@@ -123,7 +123,7 @@ module _ (nodes : List Node) (x : Node) where
         omega arith
 
 -- a graph with a further type and further arguments
-abbrev graph_made : Graph → Node → List ℕ → Graph
+abbrev pub graph_made : Graph → Node → List ℕ → Graph
 graph_made g x ns = record { nodes = g.nodes ++ x ∷ []; arguments = g.arguments ++ ns; given = g.given }
 
 module _
@@ -175,7 +175,7 @@ module _
     )
 
 -- without further arguments
-without_more : (P : Graph → Type 0) (g : Graph) (x : Node) → P (graph_made g x []) ↔ P (added x g)
+pub without_more : (P : Graph → Type 0) (g : Graph) (x : Node) → P (graph_made g x []) ↔ P (added x g)
 without_more P g x =
     let Q : List ℕ → Type 0 = λ ns. P (record { nodes = g.nodes ++ x ∷ []; arguments = ns; given = g.given }) in
     (subst Q (append-nil g.arguments), subst Q (sym (append-nil g.arguments)))

@@ -42,7 +42,7 @@ pub leads_on :
 leads_on nodes zero n r s h e = (s, ap (λ x. link_of (node_at nodes x).form) h ∙ e, refl)
 leads_on nodes (suc links) n r s h e = (h.0, h.1, leads_on nodes links h.0 r s h.2 e)
 
-link_within : (types arguments : ℕ) (a : Form) (m : ℕ) → link_of a ≡ Some m → NamesWhatIsThere types arguments a → m < types
+pub link_within : (types arguments : ℕ) (a : Form) (m : ℕ) → link_of a ≡ Some m → NamesWhatIsThere types arguments a → m < types
 link_within types arguments Variable m e h = absurd (cc)
 link_within types arguments (Link l) m e h =
     let same : l ≡ m = cc in
@@ -50,7 +50,7 @@ link_within types arguments (Link l) m e h =
 link_within types arguments (Applied c first count) m e h = absurd (cc)
 
 -- a row leads to a type
-leads_within :
+pub leads_within :
     (types arguments : ℕ) (nodes : List Node) → ((n : ℕ) → NamesWhatIsThere types arguments (node_at nodes n).form)
     → (links n r : ℕ) → n < types → Leads links nodes n r → r < types
 leads_within types arguments nodes names zero n r lt h = subst (λ x. x < types) h lt

@@ -1,5 +1,6 @@
 -- The laws of graphs, of unification, of most general readings, and of the sizes of types.
 use Rattle.std.specs.Prelude.{◌≡◌, ◌↔◌, ℕ, ◌+◌, ◌*◌, ◌≤◌, ◌<◌, Some, None, Bool, true, false, IsTrue, List, [], ◌∷◌, length}
+use Rattle.std.specs.List.{AllByRecursion}
 use Rattle.type_terms.specs.TypeTrees.{Ty, Constructed, instance_of}
 use Rattle.type_graph.specs.Copied.{copied, copy_is}
 use Rattle.type_graph.specs.Graph.{Graph, node_at, built_in, variable_added, applied}
@@ -7,7 +8,7 @@ use Rattle.type_graph.specs.Outer.{made_outer, item_ended}
 use Rattle.type_graph.specs.Sized.{Counting, all_counted}
 use Rattle.type_graph.specs.Unified.{unified, unified_is}
 use Rattle.type_readings.specs.Readings.{trees_of, Reads, LeavesOpen, HasSizes, AllEqual}
-use Rattle.type_readings.specs.WellFormed.{AreNumbers, ArePairs, IsWellFormed}
+use Rattle.type_readings.specs.WellFormed.{AreNumbers, ArePairs, IsWellFormed, IsOuter, IsCopyable, IsGiving}
 
 -- the built-in types are a well-formed graph
 abbrev pub BuiltInIsWellFormed : Type 0
@@ -57,6 +58,65 @@ CopyKeepsTypes =
 -- what reads the graph behind a copy reads the graph before
 abbrev pub CopyKeepsReadings : Type 0
 CopyKeepsReadings = (n c : ℕ) (g h : Graph) (f : ℕ → Ty) → IsWellFormed g → copied n g ≡ copy_is c h → Reads f h → Reads f g
+
+-- copies can be told from the built-in types
+abbrev pub BuiltInIsCopyable : Type 0
+BuiltInIsCopyable = IsCopyable built_in
+
+-- and, where they can be told from the types of a graph, from those of one with a new variable
+abbrev pub VariableKeepsCopyable : Type 0
+VariableKeepsCopyable = (g : Graph) → IsWellFormed g → IsCopyable g → IsCopyable (variable_added g)
+
+-- or with a type constructor, of which the arguments are outer where it is
+abbrev pub ApplicationKeepsCopyable : Type 0
+ApplicationKeepsCopyable =
+    (c : ℕ) (ns : List ℕ) (outer : Bool) (g : Graph) → IsWellFormed g → IsCopyable g → AreNumbers (length g.nodes) ns
+    → (outer ≡ true → AllByRecursion (IsOuter g) ns) → IsCopyable (applied c ns outer g)
+
+-- or where types and their parts become outer
+abbrev pub OuterKeepsCopyable : Type 0
+OuterKeepsCopyable =
+    (ns : List ℕ) (g : Graph) → IsWellFormed g → IsCopyable g → AreNumbers (length g.nodes) ns → length ns ≤ 33554432
+    → IsCopyable (made_outer 18446744073709551615 ns g)
+
+-- and, at the end of an item, from those of a graph where only what the item gave isn't outer in an outer type
+abbrev pub EndIsCopyable : Type 0
+EndIsCopyable = (g : Graph) → IsWellFormed g → IsGiving g → length g.given ≤ 33554432 → IsCopyable (item_ended g)
+
+-- the copy of a type is a type of the graph behind
+abbrev pub CopyIsNumber : Type 0
+CopyIsNumber =
+    (n c : ℕ) (g h : Graph) → IsWellFormed g → IsCopyable g → n < length g.nodes → copied n g ≡ copy_is c h
+    → length h.nodes ≤ 33554432 → c < length h.nodes
+
+-- which is well formed, where there is room for it
+abbrev pub CopyKeepsForm : Type 0
+CopyKeepsForm =
+    (n c : ℕ) (g h : Graph) → IsWellFormed g → IsCopyable g → n < length g.nodes → copied n g ≡ copy_is c h
+    → length h.nodes ≤ 33554432 → length h.arguments ≤ 67108864 → IsWellFormed h
+
+-- and of which a further copy can be told
+abbrev pub CopyKeepsCopyable : Type 0
+CopyKeepsCopyable =
+    (n c : ℕ) (g h : Graph) → IsWellFormed g → IsCopyable g → n < length g.nodes → copied n g ≡ copy_is c h
+    → length h.nodes ≤ 33554432 → IsCopyable h
+
+-- two readings give outer types the same trees
+abbrev pub AgreeOnOuter : (f k : ℕ → Ty) → Graph → Type 0
+AgreeOnOuter f k g = (m : ℕ) → IsOuter g m → k m ≡ f m
+
+-- whatever tree the copy of a type has, the type may have too, with the outer types as they are
+abbrev pub CopyReads : Type 0
+CopyReads =
+    (n c : ℕ) (g h : Graph) (f : ℕ → Ty) → IsWellFormed g → IsCopyable g → n < length g.nodes → copied n g ≡ copy_is c h
+    → length h.nodes ≤ 33554432 → Reads f h → (k : ℕ → Ty) × Reads k g × AgreeOnOuter f k g × (k n ≡ f c)
+
+-- whatever tree a type may have, with the outer types as they are, its copy may have, with all types before it as they are
+abbrev pub CopyIsFree : Type 0
+CopyIsFree =
+    (n c : ℕ) (g h : Graph) (f k : ℕ → Ty) → IsWellFormed g → IsCopyable g → n < length g.nodes → copied n g ≡ copy_is c h
+    → length h.nodes ≤ 33554432 → Reads f g → Reads k g → AgreeOnOuter f k g
+    → (t : ℕ → Ty) × Reads t h × ((m : ℕ) → m < length g.nodes → t m ≡ f m) × (t c ≡ k n)
 
 -- behind pairs that were made equal, or that clashed, a graph is as well formed as before
 abbrev pub KeepsForm : Type 0

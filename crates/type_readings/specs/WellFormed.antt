@@ -1,10 +1,10 @@
 -- Graphs in which each number is one of a type, and in which links end.
-use Rattle.std.specs.Prelude.{◌≡◌, ℕ, zero, suc, ◌+◌, ◌^◌, ◌<◌, ◌≤◌, List, length, Some, None}
+use Rattle.std.specs.Prelude.{◌≡◌, ℕ, zero, suc, ◌+◌, ◌^◌, ◌<◌, ◌≤◌, ◌⊎◌, List, [], ◌∷◌, length, Some, None, true}
 use Rattle.std.specs.List.{AllByRecursion, sum_by}
 use Rattle.type_graph.specs.declared.form.Form.{Form}
 use Rattle.type_graph.specs.declared.form.Form.TheVariants as form
 use Rattle.type_graph.specs.declared.types.Node.{Node}
-use Rattle.type_graph.specs.Graph.{Graph, node_at, link_of}
+use Rattle.type_graph.specs.Graph.{Graph, node_at, root, form_of, link_of, arguments_of}
 
 -- what a form names is there, among so many types and so many arguments
 abbrev pub NamesWhatIsThere : (types arguments : ℕ) → Form → Type 0
@@ -54,3 +54,29 @@ pub record IsWellFormed (g : Graph) : Type 0 where
   pub numbers : AreNumbers (length g.nodes) g.arguments
   pub ends : (n : ℕ) → Ends g.nodes n
   pub weighs : sum_by weight g.nodes ≤ length g.nodes
+
+-- a type is outer, by its root
+abbrev pub IsOuter : Graph → ℕ → Type 0
+IsOuter g n = (node_at g.nodes (root g.nodes n)).is_outer ≡ true
+
+-- a graph of which a copy can be told from what was there
+pub record IsCopyable (g : Graph) : Type 0 where
+  -- what a type has as its latest copy is a type that is there
+  pub copies_before : (n : ℕ) → n < length g.nodes → (node_at g.nodes n).copy < length g.nodes
+  -- the arguments of outer types are outer
+  pub outer_arguments : (n : ℕ) → IsOuter g n → AllByRecursion (IsOuter g) (arguments_of g.arguments (form_of g.nodes n))
+
+-- a type is outer, or is to be so as one of these is
+abbrev pub IsOuterOr : Graph → List ℕ → ℕ → Type 0
+IsOuterOr g [] n = IsOuter g n
+IsOuterOr g (p ∷ ps) n = (root g.nodes p ≡ root g.nodes n) ⊎ IsOuterOr g ps n
+
+-- a graph in which the arguments of outer types are outer, but for what the item at hand gave
+pub record IsGiving (g : Graph) : Type 0 where
+  -- what was given are types
+  pub given_numbers : AreNumbers (length g.nodes) g.given
+  -- what a type has as its latest copy is a type that is there
+  pub copies_before : (n : ℕ) → n < length g.nodes → (node_at g.nodes n).copy < length g.nodes
+  -- the arguments of outer types are outer or given
+  pub arguments_or_given :
+      (n : ℕ) → IsOuter g n → AllByRecursion (IsOuterOr g g.given) (arguments_of g.arguments (form_of g.nodes n))

@@ -11,15 +11,20 @@
 //! unification ([`unify_keeps_form`]). For two types and all steps that there may be, it is decided
 //! ([`unify_decides`]). A reading that leaves variables open is a most general one
 //! ([`open_is_most_general`]). Counting the sizes of types decides whether there is one
-//! ([`counting_decides`]). A copy changes nothing of the types that were there ([`copy_keeps_types`]); of
-//! its own types nothing is said yet.
+//! ([`counting_decides`]). A copy changes nothing of the types that were there ([`copy_keeps_types`]).
+//! With the outer types as they are, the copy of a type may have exactly the trees that the type may
+//! have ([`copy_stands_for_original`]), and the graph behind it is well formed ([`copy_keeps_form`]); both
+//! where the arguments of outer types are outer. So they are in graphs as they are made
+//! ([`making_keeps_copyable`]), behind a copy, where types become outer, and at the end of an item in
+//! which all that isn't outer in an outer type was given to it ([`outer_is_copyable`]). In the midst of
+//! an item, behind unification, they need not be: nothing is claimed of copies there.
 //!
 //! The definitions stand in `specs/`: `Readings`, `WellFormed`, and the laws in `Laws`.
 //!
 //! Stands on: `type_terms`, for the trees, and `type_graph`, for the graph and for unification.
 #![tactic(auto)]
 
-ghost use Rattle.type_readings.specs.Laws.{BuiltInIsWellFormed, VariableKeepsForm, VariableAsksNothing, ApplicationKeepsForm, ApplicationIsRead, OuterKeepsForm, OuterAsksNothing, EndKeepsForm, EndAsksNothing, CopyKeepsTypes, CopyKeepsReadings, KeepsForm, KeepsNumbers, Equates, LosesNone, RefusesRightly, DecidesPair, OpenIsMostGeneral, CountedIsRead, UncountedIsUnread};
+ghost use Rattle.type_readings.specs.Laws.{BuiltInIsWellFormed, VariableKeepsForm, VariableAsksNothing, ApplicationKeepsForm, ApplicationIsRead, OuterKeepsForm, OuterAsksNothing, EndKeepsForm, EndAsksNothing, CopyKeepsTypes, CopyKeepsReadings, BuiltInIsCopyable, VariableKeepsCopyable, ApplicationKeepsCopyable, OuterKeepsCopyable, EndIsCopyable, CopyIsNumber, CopyKeepsForm, CopyKeepsCopyable, CopyReads, CopyIsFree, KeepsForm, KeepsNumbers, Equates, LosesNone, RefusesRightly, DecidesPair, OpenIsMostGeneral, CountedIsRead, UncountedIsUnread};
 
 /// The law that graphs are well formed as they are made: the built-in types, and a well-formed graph
 /// with a new variable or a type constructor with its arguments.
@@ -50,6 +55,37 @@ pub fn outer_is_read()
 pub fn copy_keeps_types()
     ensures types { CopyKeepsTypes }
     ensures readings { CopyKeepsReadings }
+{}
+
+/// The law that copies can be told from the types of a graph, as they are made: the built-in types, and
+/// a new variable or a type constructor, of which the arguments are outer where it is.
+pub fn making_keeps_copyable()
+    ensures built_in { BuiltInIsCopyable }
+    ensures variable { VariableKeepsCopyable }
+    ensures applied { ApplicationKeepsCopyable }
+{}
+
+/// The law that copies can be told where types and their parts become outer, and at the end of an item
+/// in which only what it gave isn't outer in outer types.
+pub fn outer_is_copyable()
+    ensures made { OuterKeepsCopyable }
+    ensures ended { EndIsCopyable }
+{}
+
+/// The law that the copy of a type is a type of a well-formed graph, where there is room for it, and that
+/// further copies can be made there.
+pub fn copy_keeps_form()
+    ensures number { CopyIsNumber }
+    ensures form { CopyKeepsForm }
+    ensures copyable { CopyKeepsCopyable }
+{}
+
+/// The law of the copy of a type: each tree that it has, where the graph behind it is read, the type may
+/// have too, and each tree that the type may have the copy may have, while all types before it stay as
+/// they are. Outer types are the same for both.
+pub fn copy_stands_for_original()
+    ensures reads { CopyReads }
+    ensures free { CopyIsFree }
 {}
 
 /// The law that a graph stays well formed in unification, and has as many types and the same arguments.
