@@ -34,6 +34,26 @@ pub(crate) const GENERALISED: Group = Group {
             Types,
         ),
         (
+            r#"let r = ref [] let f () = match !r with y :: _ -> y | [] -> failwith ""
+let () = r := [[]]; ignore ("a" :: f ()); r := [["b"]]"#,
+            Types,
+        ),
+        (
+            r#"let r = ref [] let f () = match !r with y :: _ -> y | [] -> failwith ""
+let () = r := [[]]; ignore ("a" :: f ()); r := [[1]]"#,
+            Fault(2, 49),
+        ),
+        (
+            "let r = ref [] let put x = r := x :: []
+let h c = r := (c :: []) :: []; put (true :: []) let () = h true",
+            Types,
+        ),
+        (
+            "let r = ref [] let put x = r := x :: []
+let h c = r := (c :: []) :: []; put (true :: []) let () = h 1",
+            Fault(2, 61),
+        ),
+        (
             r#"let id = (fun x -> x : 'a -> 'a) let a = id 1 let b = id "a""#,
             Types,
         ),
@@ -423,7 +443,7 @@ pub(crate) const PATTERNS: Group = Group {
         ),
         (
             "let f g = match g () with x -> x + 1 | exception None -> 0",
-            Fault(2, 50),
+            Fault(2, 49),
         ),
         ("let f g = try g () with Effect.Unhandled _ -> 1", Types),
         (
