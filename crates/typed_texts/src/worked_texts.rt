@@ -443,7 +443,7 @@ pub(crate) const PATTERNS: Group = Group {
         ),
         (
             "let f g = match g () with x -> x + 1 | exception None -> 0",
-            Fault(2, 49),
+            Fault(2, 50),
         ),
         ("let f g = try g () with Effect.Unhandled _ -> 1", Types),
         (
