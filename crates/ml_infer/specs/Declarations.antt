@@ -55,7 +55,7 @@ effect_row_declared None p s = s
 effect_row_declared (Some row) p s =
     let a = declared_argument p row.argument closed row.place s in
     let t = written p row.result closed row.place a.state in
-    refused_unless (is_of (form_of t.state.types.nodes t.found) 10) row.place t.state
+    refused_unless (is_of (form_of t.state.types.nodes t.found) 10 1) row.place t.state
 
 abbrev pub effect_declared : Parts → ℕ → Inference → Inference
 effect_declared p n s = effect_row_declared (slice_get p.effect_rows n) p s

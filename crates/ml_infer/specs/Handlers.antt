@@ -19,6 +19,7 @@ use Rattle.ml_infer.specs.declared.tasks.Handling.{Handling}
 use Rattle.ml_infer.specs.declared.tasks.HandlerClause.{HandlerClause}
 use Rattle.ml_infer.specs.declared.written.Variables.TheVariants as variables
 use Rattle.ml_infer.specs.Inference.{With, valued, Gives, gives, equated, new_variable, of_one_type, refused, variable_noted}
+use Rattle.ml_infer.specs.Known.{known}
 use Rattle.ml_infer.specs.Tasks.{first, first_one, term_tasks}
 use Rattle.ml_infer.specs.Written.{annotated_if, written}
 use Rattle.ml_infer.specs.Constructors.{answer_of, constructed}
@@ -85,6 +86,11 @@ handled (form.Handle kind types f a value exception cs) at s =
     handler_first at cs (f ∷ a ∷ value ∷ exception ∷ []) (new_handling kind types s)
 handled _ at s = s
 
+-- behind a clause the type variable that its handler names stands for what it stood for before the clause
+abbrev pub variable_leaves : Option ℕ → Inference → Inference
+variable_leaves None s = s
+variable_leaves (Some v) s = first_one (task.VariableWas v (known s.variables v)) s
+
 -- in a clause the type name of its handler stands for what its effect gives
 abbrev pub variable_entered : Option ℕ → ℕ → Inference → Inference
 variable_entered None answer s = s
@@ -102,7 +108,7 @@ types_entered p at h answer s = parameter_entered h.types.effect p at answer (va
 
 -- a handler without clauses
 abbrev pub no_clause : Parts → Place → Handling → Inference → Inference
-no_clause p at h s = let t = new_variable s in types_entered p at h t.found t.state
+no_clause p at h s = let t = new_variable s in types_entered p at h t.found (variable_leaves h.types.variable t.state)
 
 -- the pattern of a clause's argument is there exactly where one was declared
 abbrev pub clause_argument : (argument type : Option ℕ) → Place → Inference → Inference
@@ -114,7 +120,8 @@ clause_argument _ _ at s = refused at s
 abbrev pub clause_for : Parts → Handling → HandlerClause → Option ℕ → Gives → Inference
 clause_for p h c type answer =
     clause_argument c.argument type c.place
-    (first_one (task.Resumption h c answer.found) (types_entered p c.place h answer.found answer.state))
+    (first_one (task.Resumption h c answer.found)
+    (types_entered p c.place h answer.found (variable_leaves h.types.variable answer.state)))
 
 abbrev pub clause_of_effect : Parts → Handling → HandlerClause → With Constructed → Inference
 clause_of_effect p h c made = clause_for p h c made.value.argument (answer_of made.value.value made.state)

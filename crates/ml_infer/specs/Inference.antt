@@ -7,11 +7,12 @@ use Rattle.type_graph.specs.Unified.{Unified, unified}
 use Rattle.type_graph.specs.Copied.{copied}
 use Rattle.type_graph.specs.Outer.{item_ended}
 use Rattle.ml_infer.specs.declared.inference.Inference.{Inference}
+use Rattle.ml_infer.specs.declared.inference.KnownVariable.{KnownVariable}
 use Rattle.ml_infer.specs.declared.inference.NameType.{NameType}
 use Rattle.ml_infer.specs.declared.inference.NameType.TheVariants as name
 use Rattle.ml_infer.specs.declared.inference.End.{End}
 use Rattle.ml_infer.specs.declared.inference.End.TheVariants as ends
-use Rattle.ml_infer.specs.Known.{known, noted}
+use Rattle.ml_infer.specs.Known.{known, noted, put}
 use Rattle.ml_infer.specs.Members.{belonging}
 
 -- a type that is found, and the state behind that
@@ -139,3 +140,7 @@ one_type x s = one_of_known (known s.names x) x s
 -- from here on a type variable of the item stands for this type
 abbrev pub variable_noted : (v t : ℕ) → Inference → Inference
 variable_noted v t s = record s { variables = noted v (record { item = s.item; found = t }) s.variables }
+
+-- from here on a type variable stands for what it stood for before
+abbrev pub variable_was : ℕ → Option KnownVariable → Inference → Inference
+variable_was v k s = record s { variables = put v k s.variables }

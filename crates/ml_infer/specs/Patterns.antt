@@ -1,5 +1,5 @@
 -- The equations of patterns and of clauses.
-use Rattle.std.specs.Prelude.{ℕ, ◌+◌, min, Bool, true, false, ◌==◌, ◌||◌, not, List, [], ◌∷◌, length, map, zip, slice_get, Option, Some, None, if◌then◌else◌}
+use Rattle.std.specs.Prelude.{ℕ, ◌+◌, Bool, true, false, ◌==◌, ◌||◌, not, List, [], ◌∷◌, length, map, zip, slice_get, Option, Some, None, if◌then◌else◌}
 use Rattle.fx_base.specs.declared.refusal.Place.{Place}
 use Rattle.effect_meaning.specs.declared.core_nodes.Clause.{Clause}
 use Rattle.effect_meaning.specs.declared.core_nodes.Constructor.{Constructor}
@@ -27,7 +27,7 @@ use Rattle.ml_infer.specs.Constructors.{constant_row, constructed, field_owner, 
 -- a whole pattern that has a type: the names that it binds are new
 abbrev pub whole_pattern : (q t : ℕ) → Inference → Inference
 whole_pattern q t s =
-    first_one (task.PatternIs q t) (record s { pattern = min (s.pattern + 1) 18446744073709551615; bound = [] })
+    first_one (task.PatternIs q t) (record s { pattern = s.pattern + 1; bound = [] })
 
 -- a new name that the pattern at hand binds
 abbrev pub new_bound : ℕ → Inference → Gives

@@ -192,7 +192,7 @@ applied_known _ _ _ at here given found s = applied_unknown at given found s
 
 abbrev pub applied_as : Form → (function argument : Place) → (given found : ℕ) → Inference → Inference
 applied_as f at here given found s =
-    applied_known (is_of f 15) (argument_of s.types.arguments f 0) (argument_of s.types.arguments f 1) at here given found s
+    applied_known (is_of f 15 2) (argument_of s.types.arguments f 0) (argument_of s.types.arguments f 1) at here given found s
 
 abbrev pub application : (function argument : Place) → Inference → Inference
 application at here s =

@@ -1,5 +1,5 @@
 -- What inference answers.
-use Rattle.std.specs.Prelude.{◌≡◌, ℕ, zero, suc, ◌+◌, ◌-◌, ◌/◌, nat_le, min, Bool, true, false, List, [], ◌∷◌, reverse, IsPermutation, IsSorted, Option, Some, None, Result, Ok, Err, if◌then◌else◌}
+use Rattle.std.specs.Prelude.{◌≡◌, ℕ, zero, suc, ◌+◌, ◌-◌, ◌/◌, nat_le, min, Bool, true, false, IsTrue, ◌&&◌, List, [], ◌∷◌, reverse, IsPermutation, IsSorted, Option, Some, None, Result, Ok, Err, if◌then◌else◌}
 use Rattle.std.specs.List.{list_any}
 use Rattle.std.specs.List.Sorted.{IsStable}
 use Rattle.std.specs.Ordering.{nat_cmp, ordering_then}
@@ -12,7 +12,7 @@ use Rattle.type_terms.specs.declared.base_type.BaseTy.{BaseTy}
 use Rattle.type_terms.specs.declared.base_type.BaseTy.TheVariants as base
 use Rattle.type_graph.specs.declared.form.Form.{Form}
 use Rattle.type_graph.specs.declared.form.Form.TheVariants as form
-use Rattle.type_graph.specs.Graph.{Graph, form_of, root}
+use Rattle.type_graph.specs.Graph.{Graph, form_of, has_room, root}
 use Rattle.type_graph.specs.Sized.{Counting, all_counted, is_too_large}
 use Rattle.ml_infer.specs.declared.inference.Compared.{Compared}
 use Rattle.ml_infer.specs.declared.inference.End.{End}
@@ -65,7 +65,7 @@ base_row (suc (suc (suc (suc zero)))) = Some base.Unit
 base_row _ = None
 
 abbrev pub base_form : Form → Option BaseTy
-base_form (form.Applied c first count) = base_row c
+base_form (form.Applied c first zero) = base_row c
 base_form _ = None
 
 -- the type of a comparison, if it is such a one
@@ -112,8 +112,17 @@ abbrev pub text_cmp : Compared → Compared → Ordering
 text_cmp a b =
     ordering_then (ordering_then (nat_cmp a.item b.item) (nat_cmp a.place.line b.place.line)) (nat_cmp a.place.column b.place.column)
 
+-- a walk took all equations and steps that it had to, and had room for its types
+abbrev pub not_stopped : Option End → Bool
+not_stopped (Some ends.Stopped) = false
+not_stopped _ = true
+
+abbrev pub is_complete : Inference → Bool
+is_complete s = not_stopped s.end && has_room s.types
+
 -- the verdict on a program, with its comparisons in the order of the text; those at one place stay in their order
 pub record IsVerdict (p : Parts) (r : Result (List BaseTy) Fault) : Type 0 where
+  pub complete : IsTrue (is_complete (walked p 18446744073709551615))
   pub order : List Compared
   pub elements : IsPermutation (reverse (walked p 18446744073709551615).comparisons) order
   pub sorted : IsSorted text_cmp order

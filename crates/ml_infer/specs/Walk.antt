@@ -3,9 +3,10 @@ use Rattle.std.specs.Prelude.{ℕ, zero, suc, List, [], ◌∷◌, Option, Some,
 use Rattle.effect_meaning.specs.Arena.{Parts}
 use Rattle.ml_infer.specs.declared.inference.Inference.{Inference}
 use Rattle.ml_infer.specs.declared.inference.End.{End}
+use Rattle.ml_infer.specs.declared.inference.End.TheVariants as ends
 use Rattle.ml_infer.specs.declared.tasks.Task.{Task}
 use Rattle.ml_infer.specs.declared.tasks.Task.TheVariants as task
-use Rattle.ml_infer.specs.Inference.{equated, given_back, of_one_type, pattern_place, taken, term_place}
+use Rattle.ml_infer.specs.Inference.{equated, given_back, of_one_type, pattern_place, taken, term_place, variable_was}
 use Rattle.ml_infer.specs.Tasks.{first}
 use Rattle.ml_infer.specs.Declarations.{effect_declared, field_declared, type_declared, variant_declared}
 use Rattle.ml_infer.specs.Patterns.{alias, clause, clauses, field_pattern, pattern}
@@ -21,6 +22,7 @@ acted_in_group (task.EndFunction f a) p s = end_function p f a s
 acted_in_group (task.NoClause at h) p s = no_clause p at h s
 acted_in_group (task.EffectClause h c) p s = effect_clause p h c s
 acted_in_group (task.Resumption h c answer) p s = resumption p h c answer s
+acted_in_group (task.VariableWas v k) p s = variable_was v k s
 acted_in_group _ p s = s
 
 -- tasks of functions, fields and declarations
@@ -72,7 +74,7 @@ abbrev pub onward : Option Task → Inference → (Task → Inference) → Infer
 onward None s others = s
 onward (Some t) s others = others t
 
--- all tasks, in so many steps at the most
+-- all tasks; the walk ends where they aren't done in so many steps
 unfoldable pub finished : (steps : ℕ) → Parts → Inference → Inference
-finished zero p s = s
+finished zero p s = record s { end = Some ends.Stopped }
 finished (suc steps) p s = let n = next_task s in onward n.task n.state (λ t. finished steps p (acted t p n.state))

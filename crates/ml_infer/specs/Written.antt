@@ -7,6 +7,7 @@ use Rattle.effect_meaning.specs.declared.core_nodes.TypeExpression.TheVariants a
 use Rattle.effect_meaning.specs.declared.core_tables.TypeRow.{TypeRow}
 use Rattle.effect_meaning.specs.Arena.{Parts}
 use Rattle.type_graph.specs.Graph.{applied}
+use Rattle.ml_infer.specs.declared.inference.End.TheVariants as ends
 use Rattle.ml_infer.specs.declared.inference.Inference.{Inference}
 use Rattle.ml_infer.specs.declared.inference.Read.{Read}
 use Rattle.ml_infer.specs.declared.inference.KnownVariable.{KnownVariable}
@@ -97,10 +98,10 @@ abbrev pub visited_one : Parts → Variables → Place → Visit → List Visit 
 visited_one p vars at (visit.Enter n) vs s = entered p vars at n vs s
 visited_one p vars at (visit.Leave n) vs s = reading vs (left p n s)
 
--- so many steps at the most
+-- all steps; the walk ends where it takes more than so many
 unfoldable pub visited : (steps : ℕ) → Parts → Variables → Place → List Visit → Inference → Inference
 visited steps p vars at [] s = s
-visited zero p vars at (v ∷ vs) s = s
+visited zero p vars at (v ∷ vs) s = record s { end = Some ends.Stopped }
 visited (suc steps) p vars at (v ∷ vs) s = let r = visited_one p vars at v vs s in visited steps p vars at r.visits r.state
 
 -- the type that a written one stands for

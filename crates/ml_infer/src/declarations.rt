@@ -87,7 +87,7 @@ impl Inference {
         };
         self.declared_argument(arena, row.argument, CLOSED, row.place)?;
         let result = self.written(arena, row.result, CLOSED, row.place)?;
-        if !self.types.form(result).is_of(EFFECT) {
+        if !self.types.form(result).is_of(EFFECT, 1) {
             self.refuse(row.place);
         }
         Ok(())

@@ -2,7 +2,7 @@
 
 ghost use Rattle.std.specs.Prelude.{◌≡◌, map, OnOk, IfOk};
 ghost use Rattle.ml_infer.specs.Inference.{gives, valued};
-ghost use Rattle.ml_infer.specs.Handlers.{continuation_type, effect_clause, effect_clauses, handled, handler_clause, handler_parts, new_handling, no_clause, resumption, subject_type, types_entered};
+ghost use Rattle.ml_infer.specs.Handlers.{continuation_type, effect_clause, effect_clauses, handled, handler_clause, handler_parts, new_handling, no_clause, resumption, subject_type, types_entered, variable_leaves};
 
 use crate::inference::Inference;
 use crate::tasks::{HandlerClause, Handling, Task, term_tasks};
@@ -137,7 +137,20 @@ impl Inference {
         ensures { OnOk result (self.new ≡ no_clause arena.now place handling self.old) }
     {
         let answer = self.variable()?;
+        self.leave_variable(handling.types.variable)?;
         self.enter_types(arena, place, handling, answer)
+    }
+
+    // Behind a clause the type variable that its handler names stands for what it stood for before the
+    // clause.
+    fn leave_variable(&mut self, variable: Option<u32>) -> Result<(), AllocError>
+        ensures { OnOk result (self.new ≡ variable_leaves variable self.old) }
+    {
+        let Some(variable) = variable else {
+            return Ok(());
+        };
+        let known = self.variables.get(variable);
+        self.push(Task::VariableWas { variable, known })
     }
 
     // In a clause the type name of its handler stands for what its effect gives, and so does the type
@@ -179,6 +192,7 @@ impl Inference {
         };
         let constructed = self.constructed(arena, clause.effect, clause.place)?;
         let answer = self.answer(constructed.value)?;
+        self.leave_variable(handling.types.variable)?;
         self.enter_types(arena, clause.place, handling, answer)?;
         self.push(Task::Resumption {
             handling,

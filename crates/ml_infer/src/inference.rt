@@ -5,6 +5,7 @@
 
 ghost use Rattle.std.specs.Prelude.{◌≡◌, OnOk, IfOk};
 ghost use Rattle.ml_infer.specs.Inference.{begun, copied_type, equated, given_back, gives, name_noted, new_name, new_variable, of_one_type, one_type, pattern_place, refused, taken, term_place, type_of_name, variable_noted};
+ghost use Rattle.ml_infer.specs.Verdict.{is_complete};
 
 use crate::known::Known;
 use crate::members::{Members, fields_of, variants_of};
@@ -113,6 +114,14 @@ impl Inference {
             last: Place { line: 1, column: 1 },
             end: None,
         })
+    }
+
+    /// Whether the walk took all equations and steps that it had to, and had room for its types. It isn't
+    /// so where there were more of them than can be counted.
+    pub fn is_complete(&self) -> bool
+        ensures { result ≡ is_complete self.now }
+    {
+        !matches!(self.end, Some(End::Stopped)) && self.types.has_room()
     }
 
     /// Ends the walk with a type fault, unless it has ended.

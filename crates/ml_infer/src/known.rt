@@ -1,7 +1,7 @@
 //! What is known by number.
 
 ghost use Rattle.std.specs.Prelude.{◌≡◌, [], OnOk};
-ghost use Rattle.ml_infer.specs.Known.{known, noted, reaching};
+ghost use Rattle.ml_infer.specs.Known.{known, noted, put, reaching};
 
 use std::alloc::{AllocError, Global};
 use std::marker::Model;
@@ -52,14 +52,21 @@ impl<T: Copy + Drop> Known<T> {
         Ok(())
     }
 
+    /// From here on this is known of a number, or nothing.
+    pub fn put(&mut self, n: u32, item: Option<T>) -> Result<(), AllocError>
+        ensures { OnOk result (self.new ≡ put n item self.old) }
+    {
+        self.reach(n)?;
+        if (n as usize) < self.items.len() {
+            self.items[n as usize] = item;
+        }
+        Ok(())
+    }
+
     /// From here on this is known of a number.
     pub fn set(&mut self, n: u32, item: T) -> Result<(), AllocError>
         ensures { OnOk result (self.new ≡ noted n item self.old) }
     {
-        self.reach(n)?;
-        if (n as usize) < self.items.len() {
-            self.items[n as usize] = Some(item);
-        }
-        Ok(())
+        self.put(n, Some(item))
     }
 }

@@ -83,7 +83,7 @@ impl Inference {
     pub fn whole_pattern(&mut self, pattern: u32, expected: u32) -> Result<(), AllocError>
         ensures { OnOk result (self.new ≡ whole_pattern pattern expected self.old) }
     {
-        self.pattern = self.pattern.saturating_add(1);
+        self.pattern = self.pattern.checked_add(1).ok_or(AllocError)?;
         self.bound = Stack::new(self.types.alloc());
         self.push(Task::PatternIs { pattern, expected })
     }

@@ -3,7 +3,7 @@
 ghost use Rattle.std.specs.Prelude.{◌≡◌, OnOk, IfOk};
 ghost use Rattle.ml_infer.specs.Tasks.{first, first_one, term_tasks};
 
-use crate::inference::Inference;
+use crate::inference::{Inference, KnownVariable};
 use crate::written::Variables;
 use effect_meaning::{Constructor, FieldPart, HandlerKind, HandlerTypes};
 use fx_base::Place;
@@ -143,6 +143,11 @@ pub enum Task {
     NoClause {
         place: Place,
         handling: Handling,
+    },
+    /// Behind a clause of a handler. A type variable stands again for what it stood for before the clause.
+    VariableWas {
+        variable: u32,
+        known: Option<KnownVariable>,
     },
     /// A clause of a handler.
     EffectClause {

@@ -516,7 +516,7 @@ impl Inference {
         let given = self.take()?;
         let found = self.take()?;
         let form = self.types.form(found);
-        if form.is_of(FUNCTION)
+        if form.is_of(FUNCTION, 2)
             && let (Some(expected), Some(answer)) = (
                 self.types.argument(form, 0),
                 self.types.argument(form, 1),

@@ -104,7 +104,12 @@ fn first_fault(
 fn base_of(types: &Types, n: u32) -> Option<BaseTy>
     ensures { result ≡ base_of types.now n }
 {
-    let Form::Applied { constructor, .. } = types.form(n) else {
+    let Form::Applied {
+        constructor,
+        count: 0,
+        ..
+    } = types.form(n)
+    else {
         return None;
     };
     match constructor {
@@ -196,6 +201,9 @@ fn compared(alloc: Global, arena: &CoreArena) -> Result<Result<Sequence<BaseTy>,
     ensures { IfOk result (λ found. IsVerdict arena.now found) }
 {
     let walk = walk(alloc, arena, u64::MAX)?;
+    if !walk.is_complete() {
+        return Err(AllocError);
+    }
     let order = in_text(alloc, &walk)?;
     verdict(alloc, arena, &walk, order.as_slice())
 }

@@ -129,6 +129,7 @@ impl Inference {
                 clause,
                 answer,
             } => self.resumption(arena, handling, clause, answer),
+            Task::VariableWas { variable, known } => self.variables.put(variable, known),
             _ => Ok(()),
         }
     }

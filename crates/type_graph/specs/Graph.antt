@@ -1,5 +1,5 @@
 -- Types by numbers, as they become known.
-use Rattle.std.specs.Prelude.{ℕ, zero, suc, ◌+◌, Bool, true, false, ◌==◌, List, [], ◌∷◌, ◌++◌, length, take, drop, slice_get, slice_set, slice_index_or, Option, Some, None, if◌then◌else◌, nat_le}
+use Rattle.std.specs.Prelude.{ℕ, zero, suc, ◌+◌, Bool, true, false, ◌==◌, List, [], ◌∷◌, ◌++◌, length, take, drop, slice_get, slice_set, slice_index_or, Option, Some, None, if◌then◌else◌, nat_le, ◌&&◌}
 use Rattle.type_graph.specs.declared.form.Form.{Form}
 use Rattle.type_graph.specs.declared.form.Form.TheVariants as form
 use Rattle.type_graph.specs.declared.types.Node.{Node}
@@ -22,10 +22,10 @@ unknown = fresh form.Variable false
 abbrev pub node_at : List Node → ℕ → Node
 node_at nodes n = slice_index_or nodes n unknown
 
--- it is of this type constructor
-abbrev pub is_of : Form → ℕ → Bool
-is_of (form.Applied c first count) row = c == row
-is_of _ row = false
+-- it is this type constructor with so many arguments
+abbrev pub is_of : Form → (row arguments : ℕ) → Bool
+is_of (form.Applied c first count) row arguments = (c == row) && (count == arguments)
+is_of _ row arguments = false
 
 -- nothing is known
 abbrev pub is_variable : Form → Bool
@@ -84,6 +84,10 @@ variable_added g = added unknown g
 abbrev pub applied : ℕ → List ℕ → Bool → Graph → Graph
 applied c ns outer g =
     added (fresh (form.Applied c (length g.arguments) (length ns)) outer) (record g { arguments = g.arguments ++ ns })
+
+-- there are no more types and arguments than there may be
+abbrev pub has_room : Graph → Bool
+has_room g = nat_le (length g.nodes) 33554432 && nat_le (length g.arguments) 67108864
 
 -- a built-in type without arguments
 abbrev pub built_in_node : ℕ → Node

@@ -19,12 +19,16 @@ pub enum Form {
 }
 
 impl Form {
-    /// Whether it is of this type constructor.
-    pub fn is_of(self, row: u32) -> bool
-        ensures { result ≡ is_of self row }
+    /// Whether it is this type constructor with so many arguments.
+    pub fn is_of(self, row: u32, arguments: u32) -> bool
+        ensures { result ≡ is_of self row arguments }
     {
         match self {
-            Form::Applied { constructor, .. } => constructor == row,
+            Form::Applied {
+                constructor,
+                count,
+                ..
+            } => constructor == row && count == arguments,
             _ => false,
         }
     }

@@ -10,8 +10,8 @@ fn functions_are_made_equal(rt: HostRuntime) -> Result<(), Fail> {
     let (a, b) = (types.variable()?, types.variable()?);
     let (left, right) = (types.function(a, BOOL)?, types.function(INT, b)?);
     assert!(rt; types.unify(left, right)?);
-    assert!(rt; types.form(a).is_of(INT));
-    assert!(rt; types.form(b).is_of(BOOL));
+    assert!(rt; types.form(a).is_of(INT, 0));
+    assert!(rt; types.form(b).is_of(BOOL, 0));
     assert!(rt; !types.unify(a, b)?);
     Ok(())
 }

@@ -5,7 +5,7 @@
 //! `string`, `unit` and `exn`, under the numbers of their rows.
 
 ghost use Rattle.std.specs.Prelude.{◌≡◌, true, false, length, IfOk, OnOk};
-ghost use Rattle.type_graph.specs.Graph.{added, applied, arguments_of, argument_of, built_in, built_in_node, form_of, node_at, root, set_node, variable_added};
+ghost use Rattle.type_graph.specs.Graph.{added, applied, arguments_of, argument_of, built_in, built_in_node, form_of, has_room, node_at, root, set_node, variable_added};
 
 use crate::builtin_types::{BOOL, CHAR, EXN, INT, STRING, UNIT};
 use crate::form::Form;
@@ -105,6 +105,13 @@ impl Types {
         ensures { result ≡ length self.now.nodes }
     {
         self.nodes.len()
+    }
+
+    /// Whether there are no more types and arguments than there may be, as is always so.
+    pub fn has_room(&self) -> bool
+        ensures { result ≡ has_room self.now }
+    {
+        self.nodes.len() <= MOST && self.arguments.len() <= 2 * MOST
     }
 
     /// A new type.
