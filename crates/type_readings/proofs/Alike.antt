@@ -36,6 +36,16 @@ node_set P nodes r x n h k =
     (λ p. subst P (sym (get_or-set_other nodes r n x unknown p.1)) k)
     (eqb_tells n r)
 
+-- a node that counts as much as the one that was there changes no sum
+pub sum_set :
+    (w : Node → ℕ) (nodes : List Node) (r : ℕ) (x : Node) → w x ≡ w (node_at nodes r)
+    → sum_by w (slice_set nodes r x) ≡ sum_by w nodes
+sum_set w nodes r x same =
+    ⊎_elim
+    (λ l. let sum = sum_by-set w nodes r x unknown l.1 in omega arith)
+    (λ l. ap (sum_by w) (set_past nodes r x (omega arith)))
+    (leb_tells (suc r) (length nodes))
+
 pub alike_set :
     (nodes : List Node) (r : ℕ) (x : Node) → x.form ≡ (node_at nodes r).form → x.rank ≡ (node_at nodes r).rank
     → Alike nodes (slice_set nodes r x)
@@ -46,14 +56,7 @@ alike_set nodes r x form rank = record {
   ranks =
       λ n. node_set (λ (y : Node). y.rank ≡ (node_at nodes n).rank) nodes r x n (λ e. rank ∙ ap (λ k. (node_at nodes k).rank) (sym e)) refl;
   weights =
-      ⊎_elim
-      (λ l.
-      let sum = sum_by-set weight nodes r x unknown l.1 in
-      let same : weight x ≡ weight (node_at nodes r) =
-      ap (λ a. weight_of a x.rank) form ∙ ap (λ k. weight_of (node_at nodes r).form k) rank in
-      omega arith)
-      (λ l. ap (sum_by weight) (set_past nodes r x (omega arith)))
-      (leb_tells (suc r) (length nodes));
+      sum_set weight nodes r x (ap (λ a. weight_of a x.rank) form ∙ ap (λ k. weight_of (node_at nodes r).form k) rank);
 }
 
 module _ (nodes new : List Node) (alike : Alike nodes new) where
@@ -101,7 +104,7 @@ reads_outer f g r =
     )
 
 -- what stays where a root becomes outer stays where types and their parts do
-outer_keeps :
+pub outer_keeps :
     (P : Graph → Type 0) → ((g : Graph) (r : ℕ) → P g → P (set_node r (outer (node_at g.nodes r)) g)) → (steps : ℕ) (ns : List ℕ) (g : Graph)
     → P g → P (made_outer steps ns g)
 unfolding made_outer

@@ -149,7 +149,8 @@ module _ (g : Graph) (kept gone : ℕ) (node : Node) (x : Roots g kept gone node
     behind_linked false = behind_is g.given
 
 -- what holds of each of two values holds of a choice
-pub if_either : {A : Type 0} (P : A → Type 0) (t : Bool) (x y : A) → (t ≡ true → P x) → (t ≡ false → P y) → P (if t then x else y)
+pub if_either {ℓ} :
+    {A : Type 0} (P : A → Type ℓ) (t : Bool) (x y : A) → (t ≡ true → P x) → (t ≡ false → P y) → P (if t then x else y)
 if_either P true x y h k = h refl
 if_either P false x y h k = k refl
 

@@ -1,5 +1,5 @@
 -- A graph with a copy is well formed, and may be copied from again.
-use Rattle.std.proofs.Common.{◌≡◌, ℕ, suc, ◌≤◌, ◌<◌, ◌++◌, length, Some, None, true, false, refl, sym, ◌∙◌, ap, subst, arith, ⊎_elim}
+use Rattle.std.proofs.Common.{◌≡◌, ℕ, suc, ◌≤◌, ◌<◌, [], ◌++◌, length, Some, None, true, false, refl, sym, ◌∙◌, ap, subst, arith, ⊎_elim}
 use Rattle.std.proofs.lemmas.Bool.Decides.{leb_tells}
 use Rattle.std.proofs.lemmas.List.{get_or_past, length-append}
 use Rattle.type_graph.specs.declared.form.Form.{Form}
@@ -121,7 +121,7 @@ module _ (g : Graph) (well : IsWellFormed g) (h : Graph) (n c : ℕ) (y : Finish
     outer_arguments =
         λ m is.
         ⊎_elim
-        (λ p. outer_arguments_still g well h y.copy.extends y.copy.outers copyable m p.1 is)
+        (λ p. outer_arguments_still g well h y.copy.extends y.copy.outers [] tt copyable.outer_arguments m p.1 is)
         (λ p. absurd (new_inner m (omega arith) is))
         (leb_tells (suc m) (length g.nodes));
   }

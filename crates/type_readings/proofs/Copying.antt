@@ -13,15 +13,22 @@ use Rattle.type_readings.proofs.Behind.{if_either}
 use Rattle.type_readings.proofs.Making.{of_form_more}
 use Rattle.type_readings.proofs.Alike.{node_set}
 
--- what is known of each type stays, and types and arguments come behind the others
+-- what is known of each type stays, types and arguments come behind the others, and nothing is given
 pub record Extends (g h : Graph) : Type 0 where
   pub forms : (q : ℕ) → q < length g.nodes → (node_at h.nodes q).form ≡ (node_at g.nodes q).form
   pub longer : length g.nodes ≤ length h.nodes
   pub more : List ℕ
   pub arguments : h.arguments ≡ g.arguments ++ more
+  pub given : h.given ≡ g.given
 
 pub extends_itself : (g : Graph) → Extends g g
-extends_itself g = record { forms = λ q lt. refl; longer = omega arith; more = []; arguments = sym (append-nil g.arguments) }
+extends_itself g = record {
+  forms = λ q lt. refl;
+  longer = omega arith;
+  more = [];
+  arguments = sym (append-nil g.arguments);
+  given = refl;
+}
 
 -- a new type of the form of a type, which knows its copy
 pub extends_forwarded_new :
@@ -44,6 +51,7 @@ extends_forwarded_new g h r e =
           omega arith;
       more = e.more;
       arguments = e.arguments;
+      given = e.given;
     }
 
 pub extends_forwarded : (g h : Graph) (base n : ℕ) → Extends g h → Extends g (forwarded base n h).types
@@ -62,6 +70,7 @@ extends_argument g c e = record {
   longer = e.longer;
   more = e.more ++ c.copy ∷ [];
   arguments = ap (λ (l : List ℕ). l ++ c.copy ∷ []) e.arguments ∙ append_assoc g.arguments e.more (c.copy ∷ []);
+  given = e.given;
 }
 
 extends_forwarded_argument :
@@ -91,6 +100,7 @@ extends_set g h at x le e = record {
   longer = let long = length-set h.nodes at x in let longer = e.longer in omega arith;
   more = e.more;
   arguments = e.arguments;
+  given = e.given;
 }
 
 extends_arguments_copied :

@@ -9,6 +9,10 @@ pub mod Making
 pub mod Starting
 pub mod Opening
 pub mod Unification
+mod Joining
+mod Keeping
+mod OuterOr
+pub mod Connecting
 mod Trees
 mod Counting
 mod Cycles
@@ -22,3 +26,9 @@ pub mod CopyReadings
 pub mod OuterArguments
 pub mod CopyForms
 pub mod Ending
+pub mod Made
+pub mod SignatureRecipes
+pub mod Signatures
+pub mod Staying
+pub mod BecomingOuter
+pub mod OuterOrGiven

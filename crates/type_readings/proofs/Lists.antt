@@ -9,6 +9,11 @@ use Rattle.type_graph.specs.Graph.{part_of}
 use Rattle.type_readings.specs.Readings.{trees_of, AllEqual}
 use Rattle.type_readings.specs.WellFormed.{AreNumbers, ArePairs}
 
+-- what is weaker holds of each too
+pub each_so : {X : Type 0} (P Q : X → Type 0) (xs : List X) → ((x : X) → P x → Q x) → AllByRecursion P xs → AllByRecursion Q xs
+each_so P Q [] so h = tt
+each_so P Q (x ∷ xs) so h = (so x h.0, each_so P Q xs so h.1)
+
 module _ {X : Type 0} (P : X → Type 0) where
   pub each_appended : (xs ys : List X) → AllByRecursion P xs → AllByRecursion P ys → AllByRecursion P (xs ++ ys)
   each_appended [] ys h k = k

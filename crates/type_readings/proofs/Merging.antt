@@ -38,7 +38,7 @@ joined nodes kept gone node apart k g =
     }
 
 -- what holds of two numbers and of each other one holds of all
-at_each : (P : ℕ → Type 0) (kept gone : ℕ) → P kept → P gone → ((n : ℕ) → n ≢ kept → n ≢ gone → P n) → (n : ℕ) → P n
+pub at_each : (P : ℕ → Type 0) (kept gone : ℕ) → P kept → P gone → ((n : ℕ) → n ≢ kept → n ≢ gone → P n) → (n : ℕ) → P n
 at_each P kept gone k g others n =
     ⊎_elim
     (λ p. subst P (sym p.1) k)
@@ -94,14 +94,14 @@ module _ (nodes new : List Node) (kept gone : ℕ) (node : Node) (j : Joined nod
       (λ n p q. subst (λ (x : Node). NamesWhatIsThere types arguments x.form) (sym (j.elsewhere n p q)) (names n))
 
   module _ (rk : IsRoot nodes kept) (rg : IsRoot nodes gone) (rn : link_of node.form ≡ None) where
-    links_stay : (n m : ℕ) → link_of (node_at nodes n).form ≡ Some m → link_of (node_at new n).form ≡ Some m
+    pub links_stay : (n m : ℕ) → link_of (node_at nodes n).form ≡ Some m → link_of (node_at new n).form ≡ Some m
     links_stay =
         at_each (λ n. (m : ℕ) → link_of (node_at nodes n).form ≡ Some m → link_of (node_at new n).form ≡ Some m) kept gone
         (λ m e. absurd (cc))
         (λ m e. absurd (cc))
         (λ n p q m e. ap (λ (x : Node). link_of x.form) (j.elsewhere n p q) ∙ e)
 
-    kept_is_root : IsRoot new kept
+    pub kept_is_root : IsRoot new kept
     kept_is_root = ap (λ (x : Node). link_of x.form) j.at_kept ∙ rn
 
     end_gone :

@@ -139,7 +139,7 @@ module _ (f : ℕ → Ty) where
         omega arith
 
     -- the pairs that come then are of numbers
-    pairs_on :
+    pub pairs_on :
         (h : Graph) → length h.nodes ≡ length g.nodes → ArePairs (length g.nodes) ps
         → ArePairs (length h.nodes) (reverse (argument_zip g (root g.nodes p.0) (root g.nodes p.1)) ++ ps)
     pairs_on h same rest =

@@ -3,12 +3,12 @@ use Rattle.std.specs.Prelude.{◌≡◌, ◌↔◌, ℕ, ◌+◌, ◌*◌, ◌�
 use Rattle.std.specs.List.{AllByRecursion}
 use Rattle.type_terms.specs.TypeTrees.{Ty, Constructed, instance_of}
 use Rattle.type_graph.specs.Copied.{copied, copy_is}
-use Rattle.type_graph.specs.Graph.{Graph, node_at, built_in, variable_added, applied}
+use Rattle.type_graph.specs.Graph.{Graph, node_at, root, form_of, is_variable, built_in, variable_added, applied}
 use Rattle.type_graph.specs.Outer.{made_outer, item_ended}
 use Rattle.type_graph.specs.Sized.{Counting, all_counted}
 use Rattle.type_graph.specs.Unified.{unified, unified_is}
 use Rattle.type_readings.specs.Readings.{trees_of, Reads, LeavesOpen, HasSizes, AllEqual}
-use Rattle.type_readings.specs.WellFormed.{AreNumbers, ArePairs, IsWellFormed, IsOuter, IsCopyable, IsGiving}
+use Rattle.type_readings.specs.WellFormed.{AreNumbers, ArePairs, IsRoot, IsWellFormed, IsOuter, IsCopyable, IsGiving}
 
 -- the built-in types are a well-formed graph
 abbrev pub BuiltInIsWellFormed : Type 0
@@ -33,6 +33,14 @@ abbrev pub ApplicationIsRead : Type 0
 ApplicationIsRead =
     (c : ℕ) (ns : List ℕ) (outer : Bool) (g : Graph) (f : ℕ → Ty) → IsWellFormed g
     → Reads f (applied c ns outer g) ↔ (Reads f g × (f (length g.nodes) ≡ Constructed c (trees_of f ns)))
+
+-- in a well-formed graph no link leads on from the root of a type
+abbrev pub RootIsRoot : Type 0
+RootIsRoot = (g : Graph) → IsWellFormed g → (n : ℕ) → IsRoot g.nodes (root g.nodes n)
+
+-- which has the tree of the type
+abbrev pub RootIsEqual : Type 0
+RootIsEqual = (g : Graph) (f : ℕ → Ty) → IsWellFormed g → Reads f g → (n : ℕ) → f n ≡ f (root g.nodes n)
 
 -- a graph of which types become outer is well formed
 abbrev pub OuterKeepsForm : Type 0
@@ -81,7 +89,31 @@ OuterKeepsCopyable =
 
 -- and, at the end of an item, from those of a graph where only what the item gave isn't outer in an outer type
 abbrev pub EndIsCopyable : Type 0
-EndIsCopyable = (g : Graph) → IsWellFormed g → IsGiving g → length g.given ≤ 33554432 → IsCopyable (item_ended g)
+EndIsCopyable = (g : Graph) → IsWellFormed g → IsGiving g → IsCopyable (item_ended g)
+
+-- in the built-in types all that isn't outer in outer types is what the item at hand gave: nothing
+abbrev pub BuiltInIsGiving : Type 0
+BuiltInIsGiving = IsGiving built_in
+
+-- and, where it is so in a graph, it is so in one with a new variable
+abbrev pub VariableKeepsGiving : Type 0
+VariableKeepsGiving = (g : Graph) → IsWellFormed g → IsGiving g → IsGiving (variable_added g)
+
+-- or with a type constructor, of which the arguments are outer where it is
+abbrev pub ApplicationKeepsGiving : Type 0
+ApplicationKeepsGiving =
+    (c : ℕ) (ns : List ℕ) (outer : Bool) (g : Graph) → IsWellFormed g → IsGiving g → AreNumbers (length g.nodes) ns
+    → (outer ≡ true → AllByRecursion (IsOuter g) ns) → IsGiving (applied c ns outer g)
+
+-- and where copies can be told and nothing was given
+abbrev pub CopyableIsGiving : Type 0
+CopyableIsGiving = (g : Graph) → IsCopyable g → g.given ≡ [] → IsGiving g
+
+-- or where types and their parts become outer
+abbrev pub OuterKeepsGiving : Type 0
+OuterKeepsGiving =
+    (ns : List ℕ) (g : Graph) → IsWellFormed g → IsGiving g → AreNumbers (length g.nodes) ns → length ns ≤ 33554432
+    → IsGiving (made_outer 18446744073709551615 ns g)
 
 -- the copy of a type is a type of the graph behind
 abbrev pub CopyIsNumber : Type 0
@@ -129,6 +161,19 @@ abbrev pub KeepsNumbers : Type 0
 KeepsNumbers =
     (steps : ℕ) (ps : List (ℕ × ℕ)) (g h : Graph) (fits : Bool)
     → unified steps ps g ≡ unified_is fits h → (length h.nodes ≡ length g.nodes) × (h.arguments ≡ g.arguments)
+
+-- behind pairs that were made equal, all that isn't outer in outer types is still what the item at hand gave
+abbrev pub UnifyKeepsGiving : Type 0
+UnifyKeepsGiving =
+    (steps : ℕ) (ps : List (ℕ × ℕ)) (g h : Graph) → IsWellFormed g → IsGiving g → ArePairs (length g.nodes) ps
+    → unified steps ps g ≡ unified_is true h → IsGiving h
+
+-- an outer type of which something is known stays so
+abbrev pub FixedStay : Type 0
+FixedStay =
+    (steps : ℕ) (ps : List (ℕ × ℕ)) (g h : Graph) (fits : Bool) → IsWellFormed g → ArePairs (length g.nodes) ps
+    → unified steps ps g ≡ unified_is fits h → (n : ℕ) → IsOuter g n → is_variable (form_of g.nodes n) ≡ false
+    → IsOuter h n × (is_variable (form_of h.nodes n) ≡ false)
 
 -- what reads the graph behind pairs that were made equal reads the graph before, and makes each pair equal
 abbrev pub Equates : Type 0

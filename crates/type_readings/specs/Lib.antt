@@ -1,3 +1,5 @@
 pub mod Readings
 pub mod WellFormed
 pub mod Laws
+pub mod SignatureRules
+pub mod OuterLaws

@@ -1,6 +1,6 @@
 -- Graphs in which each number is one of a type, and in which links end.
-use Rattle.std.specs.Prelude.{◌≡◌, ℕ, zero, suc, ◌+◌, ◌^◌, ◌<◌, ◌≤◌, ◌⊎◌, List, [], ◌∷◌, length, Some, None, true}
-use Rattle.std.specs.List.{AllByRecursion, sum_by}
+use Rattle.std.specs.Prelude.{◌≡◌, ℕ, zero, suc, ◌+◌, ◌^◌, ◌<◌, ◌≤◌, ◌⊎◌, List, [], ◌∷◌, length, Some, None, Bool, true, false}
+use Rattle.std.specs.List.{AllByRecursion, sum_by, count_by}
 use Rattle.type_graph.specs.declared.form.Form.{Form}
 use Rattle.type_graph.specs.declared.form.Form.TheVariants as form
 use Rattle.type_graph.specs.declared.types.Node.{Node}
@@ -71,6 +71,15 @@ abbrev pub IsOuterOr : Graph → List ℕ → ℕ → Type 0
 IsOuterOr g [] n = IsOuter g n
 IsOuterOr g (p ∷ ps) n = (root g.nodes p ≡ root g.nodes n) ⊎ IsOuterOr g ps n
 
+-- a form is a link
+abbrev pub is_link : Form → Bool
+is_link (form.Link m) = true
+is_link _ = false
+
+-- how many types are linked to others
+abbrev pub link_count : List Node → ℕ
+link_count nodes = count_by (λ node. is_link node.form) nodes
+
 -- a graph in which the arguments of outer types are outer, but for what the item at hand gave
 pub record IsGiving (g : Graph) : Type 0 where
   -- what was given are types
@@ -80,3 +89,5 @@ pub record IsGiving (g : Graph) : Type 0 where
   -- the arguments of outer types are outer or given
   pub arguments_or_given :
       (n : ℕ) → IsOuter g n → AllByRecursion (IsOuterOr g g.given) (arguments_of g.arguments (form_of g.nodes n))
+  -- no more types are given than are linked
+  pub given_few : length g.given ≤ link_count g.nodes
