@@ -1,0 +1,9 @@
+pub mod GraphLaws
+pub mod Whole
+pub mod Meanings
+pub mod Laws
+pub mod VerdictLaws
+pub mod WrittenLaws
+pub mod Premises
+pub mod RuleLaws
+pub mod SoundLaws
