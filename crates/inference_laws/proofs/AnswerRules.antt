@@ -97,10 +97,6 @@ module _ (l : GraphLaws) (p : Parts) (arena : IsArena p) (below : RowsAreBelow p
   abbrev answer : Gives
   answer = answer_of of_effect.value.value of_effect.state
 
-  answer_kept : Kept s0 answer.state
-  answer_kept =
-      (answer_made l s0 of_effect.state (constructed_made l p at s0 s kept (constructor.Effect n)).kept of_effect.value.value).0
-
   answer_onward : Kept of_effect.state answer.state
   answer_onward =
       (answer_made l of_effect.state of_effect.state

@@ -64,8 +64,8 @@ module _
     -- each form, where the terms before it are shown
     form_ruled :
         (n : ℕ) (at : Place) (form : TermForm) → slice_get p.terms n ≡ Some (record { place = at; form = form })
-        → ((ws : ℕ → Ty) (m : ℕ) → m < n → TermIsRuled p f tops ws m) → ((m : ℕ) → m < n → Ruled m) → AllMet
-        (terms_below (counts p) n) (term_needs form)
+        → ((ws : ℕ → Ty) (m : ℕ) → m < n → TermIsRuled p f tops ws m) → ((m : ℕ) → m < n → Ruled m)
+        → AllMet (terms_below (counts p) n) (term_needs form)
         → FormIsRuled l p f tops vs n (record { place = at; form = form })
         (term_tree (types_of p) (patterns_of p) (place_of at) (terms_of p) form)
     form_ruled n at (form.Name x) is all terms met = name_ruled l p f tops vs n at x is

@@ -16,13 +16,12 @@ use Rattle.ml_infer.specs.Inference.{With, begun}
 use Rattle.ml_infer.specs.Known.{known, noted}
 use Rattle.ml_infer.specs.Members.{belonging, count_of, or_zero}
 use Rattle.ml_infer.specs.Terms.{named_each, names_each, names_new, record_counted}
-use Rattle.inference_laws.specs.Meanings.{LeadsTo}
 use Rattle.inference_laws.proofs.Booleans.{both_hold}
-use Rattle.inference_laws.proofs.Kept.{Kept, kept_here}
+use Rattle.inference_laws.proofs.Kept.{Kept}
 use Rattle.inference_laws.proofs.Fields.{counted_kept}
 use Rattle.inference_laws.proofs.Noting.{noted_other, noted_same}
 use Rattle.inference_laws.proofs.Trees.{got_there}
-use Rattle.inference_laws.proofs.Leading.{SameKnown, known_leads, same_known_here, same_rest_on}
+use Rattle.inference_laws.proofs.Leading.{SameKnown, same_known_here, same_rest_on}
 use Rattle.inference_laws.proofs.Tables.{row_of_type, type_row_is}
 use Rattle.inference_laws.proofs.Few.{Among, among_all, as_many_are_all, equals_itself, or_first, or_true, neither, true_both}
 
@@ -191,19 +190,6 @@ module _ (p : Parts) (t : ℕ) where
       let s = r.state in
       named_kept s0 fs (record { value = r.value && o.value; state = o.state })
       (counted_kept s0 s s.records s.equations s.item (noted f.field s.records s.naming) s.last kept)
-
-  pub names_each_leads : (s0 s : Inference) → Kept s0 s → (fs : List FieldPart) → LeadsTo p s (names_each p t fs s).state
-  names_each_leads s0 s kept fs =
-      let c = record_counted s in
-      let r : With Bool = record { value = length fs == count_of s.fields t; state = c } in
-      let counted = counted_kept s s c.records s.equations s.item s.naming s.last (kept_here s0 s kept) in
-      known_leads p s (named_each p t fs r).state (named_kept s fs r counted)
-      (same_known_on s c (named_each p t fs r).state
-      (record {
-        rest = record { same_tasks = refl; same_given = refl; same_names = refl; same_item = refl; same_pattern = refl };
-        variables = refl;
-        read = refl;
-      }) (named_same fs r))
 
 -- as many fields are counted as there are, at the begin of a walk
 module _ (t : ℕ) where

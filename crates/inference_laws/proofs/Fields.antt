@@ -96,8 +96,8 @@ below_noted :
 below_noted s x n below low y v q is =
     ⊎_elim
     (λ e.
-    let same : n ≡ One v q = some_same n (One v q) (sym (noted_same x n s.names) ∙ subst
-    (λ z. known (noted x n s.names) z ≡ Some (One v q)) e.1 is) in
+    let same : n ≡ One v q = some_same n (One v q)
+    (sym (noted_same x n s.names) ∙ subst (λ z. known (noted x n s.names) z ≡ Some (One v q)) e.1 is) in
     subst (IsOfPattern s.pattern) same low)
     (λ e. below y v q (sym (noted_other x y n s.names e.1) ∙ is))
     (eqb_tells y x)
@@ -441,8 +441,8 @@ pub record Later (g h : Graph) : Type 0 where
 pub types_kept :
     (s0 s : Inference) (h : Graph) (e : Option End) → Kept s0 s → length s.types.nodes ≤ length h.nodes
     → length s.types.arguments ≤ length h.arguments → (HasRoom h → IsWhole s → TypesAreWhole h e)
-    → (HasRoom h → IsWhole s → FixedStays s.types h) → (e ≡ None → s.end ≡ None) →
-    (HasRoom h → IsWhole s → e ≡ None → Later s.types h)
+    → (HasRoom h → IsWhole s → FixedStays s.types h) → (e ≡ None → s.end ≡ None)
+    → (HasRoom h → IsWhole s → e ≡ None → Later s.types h)
     → Kept s0 (record s { types = h; end = e })
 types_kept s0 s h e kept more further whole fixed ended later =
     let a = kept.types in

@@ -124,8 +124,8 @@ module _ (p : Parts) (f : ℕ → Ty) (tops : Tops) where
 
   -- what held where a term stood holds later
   pub ground_later :
-      (s e : Inference) (names : Names) → HasRoom e.types → e.end ≡ None → Ground p f tops s names → Follows p
-      (scope_of tops names) s e
+      (s e : Inference) (names : Names) → HasRoom e.types → e.end ≡ None → Ground p f tops s names
+      → Follows p (scope_of tops names) s e
       → Ground p f tops e names
   ground_later s e names room on g a = record {
     here = kept_here s e a.kept;

@@ -111,17 +111,6 @@ pub record BindsIn (p : Parts) (q : Pattern) (s e : Inference) : Type 0 where
   pub others : (x : ℕ) → holds (names_in q) x ≡ false → known e.names x ≡ known s.names x
   pub bound_before : (x v : ℕ) → known s.names x ≡ Some (One v s.pattern) → known e.names x ≡ known s.names x
 
--- a pattern is done: it gave a type, and bound names
-pub record PatternDone (p : Parts) (f : ℕ → Ty) (c : Context) (q : Pattern) (s e : Inference) : Type 0 where
-  pub value : ℕ
-  pub names : Names
-  pub gives : e.given ≡ value ∷ s.given
-  pub there : Has e value
-  pub binds : BindsIn p q s e
-  pub typed : PatternHas c q (f value) names
-  pub bound : AllByRecursion (IsBound f e) names
-  pub keys : (x : ℕ) → holds (names_of names) x ≡ holds (names_in q) x
-
 -- a pattern of a type is done: it bound names, and gave nothing
 pub record PatternIsDone (p : Parts) (f : ℕ → Ty) (c : Context) (q : Pattern) (t : ℕ) (s e : Inference) : Type 0 where
   pub names : Names

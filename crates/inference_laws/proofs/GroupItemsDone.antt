@@ -116,8 +116,8 @@ not_held false h = refl
 -- names that agree with what is known have small types, if what is known of them are
 names_small :
     (f : ℕ → Ty) (s : Inference) (ns : Names) → AllByRecursion (NameAgrees f s) ns
-    → ((x v q : ℕ) → holds (names_of ns) x ≡ true → known s.names x ≡ Some (One v q) → IsSmall (f v)) → Every IsSmall
-    (map (λ n. n.1) ns)
+    → ((x v q : ℕ) → holds (names_of ns) x ≡ true → known s.names x ≡ Some (One v q) → IsSmall (f v))
+    → Every IsSmall (map (λ n. n.1) ns)
 names_small f s [] agree small = tt
 names_small f s (n ∷ ns) agree small =
     let head = agree.0 in (

@@ -26,8 +26,8 @@ module _ (l : GraphLaws) (p : Parts) (arena : IsArena p) (f : ℕ → Ty) (tops 
   named_so (g ∷ fs) (n ∷ ns) h = ap (λ (x : ℕ). x ∷ names_of ns) h.0 ∙ ap (λ (xs : List ℕ). g.name ∷ xs) (named_so fs ns h.1)
 
   pub group_ruled :
-      ((m : ℕ) → m < length p.terms → TermIsRuled p f tops vs m) → (fs : List Function) → AllMet (counts p)
-      (flat_map function_needs fs)
+      ((m : ℕ) → m < length p.terms → TermIsRuled p f tops vs m) → (fs : List Function)
+      → AllMet (counts p) (flat_map function_needs fs)
       → GroupIsRuled p f tops vs fs
   group_ruled terms fs met sc k s e d ending ground scope new scoped =
       let rules = functions_ruled l p arena f tops vs (length p.terms) terms fs met in

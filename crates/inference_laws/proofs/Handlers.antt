@@ -99,8 +99,8 @@ module _ (l : GraphLaws) where
 
   -- the clauses of a handler
   clauses_first_kept :
-      (s0 s : Inference) (at : Place) (h : Handling) (cs : List EffectClause) → Kept s0 s → HasHandling s h → Kept s0
-      (effect_clauses at h cs s)
+      (s0 s : Inference) (at : Place) (h : Handling) (cs : List EffectClause) → Kept s0 s → HasHandling s h
+      → Kept s0 (effect_clauses at h cs s)
   clauses_first_kept s0 s at h [] kept there = first_one_kept s0 s (task.NoClause at h) kept there
   clauses_first_kept s0 s at h (c ∷ cs) kept there =
       first_kept s0 s (map (λ d. task.EffectClause h (handler_clause d)) (c ∷ cs)) kept
@@ -153,8 +153,8 @@ module _ (l : GraphLaws) where
     has_after_variable s (Some v) answer n has = has
 
     parameter_so :
-        (s0 s : Inference) (w : Option ℕ) (at : Place) (answer : ℕ) → Kept s0 s → Has s answer → Kept s0
-        (parameter_entered w p at answer s)
+        (s0 s : Inference) (w : Option ℕ) (at : Place) (answer : ℕ) → Kept s0 s → Has s answer
+        → Kept s0 (parameter_entered w p at answer s)
     parameter_so s0 s None at answer kept has = kept
     parameter_so s0 s (Some w) at answer kept has =
         let t = written p w variables.OfItem at s in

@@ -156,8 +156,8 @@ module _ (l : GraphLaws) (p : Parts) (f : ℕ → Ty) (tops : Tops) (vs : ℕ �
       → UseDone (scope_of tops names) x names s (type_of_known o x s)
   use_done sc x names s on ground same scoped o is =
       let among : IsTrue (holds (scope_of tops names) x) = subst IsTrue (same x) scoped in
-      elim (holds (names_of names) x) as (λ b. holds (names_of names) x ≡ b → UseDone (scope_of tops names) x names s
-      (type_of_known o x s)) [
+      elim (holds (names_of names) x) as (λ b. holds (names_of names) x ≡ b
+      → UseDone (scope_of tops names) x names s (type_of_known o x s)) [
         | true ↦ λ local. local_done local o is
         | false ↦ λ none. top_done none (top_is (names_of names) tops.names x among none) o is
       ]

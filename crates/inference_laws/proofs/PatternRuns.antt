@@ -80,11 +80,6 @@ module _ (l : GraphLaws) (p : Parts) (arena : IsArena p) (below : RowsAreBelow p
         bound_before = steady.bound_stay;
       }
 
-  pub pattern_binds :
-      (q : ℕ) (rest : List Task) (k : ℕ) (s e : Inference) → Kept s s → Does p rest k (task.Pattern q ∷ []) s e
-      → IsTrue (sides_agree (pattern_at (patterns_of p) q)) → BindsIn p (pattern_at (patterns_of p) q) s e
-  pattern_binds q rest k s e = binds_of q rest k (task.Pattern q) s e tt (λ x h. h)
-
   pub pattern_is_binds :
       (q t : ℕ) (rest : List Task) (k : ℕ) (s e : Inference) → Kept s s → Does p rest k (task.PatternIs q t ∷ []) s e
       → IsTrue (sides_agree (pattern_at (patterns_of p) q)) → BindsIn p (pattern_at (patterns_of p) q) s e

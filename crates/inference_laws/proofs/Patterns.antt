@@ -249,8 +249,8 @@ module _ (l : GraphLaws) (p : Parts) where
 
   -- a clause
   pub clause_kept :
-      (s0 s : Inference) (q : ℕ) (guard : Option ℕ) (body u t : ℕ) → Kept s0 s → Has s u → Has s t → Kept s0
-      (clause q guard body u t s)
+      (s0 s : Inference) (q : ℕ) (guard : Option ℕ) (body u t : ℕ) → Kept s0 s → Has s u → Has s t
+      → Kept s0 (clause q guard body u t s)
   clause_kept s0 s q None body u t kept has_u has_t =
       whole_pattern_kept s0 (first_one (task.TermIs body t) s) q u (first_one_kept s0 s (task.TermIs body t) kept has_t) has_u
   clause_kept s0 s q (Some g) body u t kept has_u has_t =

@@ -33,12 +33,12 @@ use Rattle.inference_laws.proofs.Kept.{Kept, Has, has_later, kept_here}
 use Rattle.inference_laws.proofs.GraphLaws.{GraphLaws}
 use Rattle.inference_laws.proofs.Trees.{got_there, pattern_is_tree, pattern_met}
 use Rattle.inference_laws.proofs.Runs.{left, Does, begins, does_tasks}
-use Rattle.inference_laws.proofs.Grounds.{PatternDone, PatternIsDone, Tops, standing}
+use Rattle.inference_laws.proofs.Grounds.{PatternIsDone, Tops, standing}
 use Rattle.inference_laws.proofs.Doing.{does_kept, rest_kept}
 use Rattle.inference_laws.specs.Premises.{EffectsAreEffects}
 use Rattle.inference_laws.proofs.Steady.{given_behind}
 use Rattle.inference_laws.proofs.BoundNames.{bound_later, keys_named, keys_same, same_bound}
-use Rattle.inference_laws.proofs.PatternRuns.{Goes, agree_end, alias_end, annotated_end, goes_begun, halves, pattern_binds, pattern_is_binds}
+use Rattle.inference_laws.proofs.PatternRuns.{Goes, agree_end, alias_end, annotated_end, goes_begun, halves, pattern_is_binds}
 use Rattle.inference_laws.proofs.PatternForms.{is_told, not_ended, of_equal}
 use Rattle.inference_laws.proofs.PatternTold.{IsDone, Opens, ToldOf, any_told, argument_told, constant_told, fields_pattern_told, name_told, no_argument_told, tuple_told}
 
@@ -265,24 +265,6 @@ module _ (l : GraphLaws) (p : Parts) (arena : IsArena p) (below : RowsAreBelow p
 
   -- the walk over a pattern gives what the rules of patterns say
   module _ (q : ℕ) (low : q < length p.patterns) (rest : List Task) (k : ℕ) (s e : Inference) where
-    pub pattern_done :
-        Does p rest k (task.Pattern q ∷ []) s e → Kept s s → HasRoom e.types → e.end ≡ None → Reads f e.types → ReadsAreMeant p s
-        → VariablesAgree f vs e → IsTrue (sides_agree (At q)) → PatternDone p f (standing p tops locals vs) (At q) s e
-    pattern_done d here room on reads meant agree sides =
-        let told = told_at q low rest k s e d
-        (record { here = here; meant = meant; room = room; on = on; reads = reads; agree = agree }) sides in
-        record {
-          value = told.value;
-          names = told.names;
-          gives = told.gives;
-          there = told.there;
-          binds = pattern_binds l p arena below q rest k s e here d sides;
-          typed = told.typed;
-          bound = told.bound;
-          keys = told.keys;
-        }
-
-    -- and so where the pattern has a type
     pub pattern_is_done :
         (t : ℕ) → Has s t → Does p rest k (task.PatternIs q t ∷ []) s e → Kept s s → HasRoom e.types → e.end ≡ None
         → Reads f e.types

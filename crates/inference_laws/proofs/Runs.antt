@@ -35,8 +35,8 @@ module _ (p : Parts) where
     pub other_part : Does p rest other_steps us middle e
 
   one_first :
-      (rest ts us : List Task) (k : ℕ) (t : Task) (s e : Inference) → s.end ≡ None → s.tasks ≡ t ∷ ((ts ++ us) ++ rest) →
-      (new : List Task)
+      (rest ts us : List Task) (k : ℕ) (t : Task) (s e : Inference) → s.end ≡ None → s.tasks ≡ t ∷ ((ts ++ us) ++ rest)
+      → (new : List Task)
       → (acted t p (left ((ts ++ us) ++ rest) s)).tasks ≡ new ++ ((ts ++ us) ++ rest)
       → Parted rest (new ++ ts) us (acted t p (left ((ts ++ us) ++ rest) s)) e
       → (all : List Task) → (ts ++ us) ++ rest ≡ all → all ≡ ts ++ (us ++ rest) → Parted rest (t ∷ ts) us s e

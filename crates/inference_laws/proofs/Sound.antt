@@ -25,8 +25,8 @@ module _ (l : GraphLaws) where
     terms f built tops = term_ruled l p asked.arena asked.below asked.effects f tops built
 
     groups :
-        (f : ℕ → Ty) → Reads f built_in → (tops : Tops) (vs : ℕ → Ty) (fs : List Function) → AllMet (counts p)
-        (flat_map function_needs fs)
+        (f : ℕ → Ty) → Reads f built_in → (tops : Tops) (vs : ℕ → Ty) (fs : List Function)
+        → AllMet (counts p) (flat_map function_needs fs)
         → GroupIsRuled p f tops vs fs
     groups f built tops vs fs met = group_ruled l p asked.arena f tops vs (terms f built tops vs) fs met
 

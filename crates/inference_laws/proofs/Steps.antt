@@ -118,8 +118,8 @@ module _ (l : GraphLaws) (s0 s : Inference) where
         l.unified_fixed 18446744073709551615 ((a, b) ∷ []) s.types h fits w.types.well
         ((has_a (before room), has_b (before room)), tt) e n is.0
         is.1 in
-        elim fits as (λ f. unified 18446744073709551615 ((a, b) ∷ []) s.types ≡ unified_is f h → Kept s0
-        (taken_equation at (unified_is f h) s)) [
+        elim fits as (λ f. unified 18446744073709551615 ((a, b) ∷ []) s.types ≡ unified_is f h
+        → Kept s0 (taken_equation at (unified_is f h) s)) [
           | true ↦
               λ is.
               let t = types_kept s0 s h s.end kept (omega arith) (omega arith)
@@ -227,7 +227,8 @@ module _ (l : GraphLaws) (s0 s : Inference) where
     abbrev ended : Graph
     ended = item_ended s.types
 
-    copy_grows : (length ended.nodes ≤ length (copied t ended).types.nodes) ×
+    copy_grows :
+        (length ended.nodes ≤ length (copied t ended).types.nodes) ×
         (length ended.arguments ≤ length (copied t ended).types.arguments)
     copy_grows = let k = l.copy_numbers t (copied t ended).copy ended (copied t ended).types refl in (k.0, k.1)
 

@@ -92,8 +92,8 @@ module _ (l : GraphLaws) (p : Parts) where
   -- two types are made equal in a state with other tasks and given types
   pub made_equal :
       (f : ℕ → Ty) (scope : List ℕ) (s e : Inference) (ts : List Task) (gs : List ℕ) (at : Place) (a b : ℕ)
-      → Kept s (record s { tasks = ts; given = gs }) → Has s a → Has s b → equated at a b
-      (record s { tasks = ts; given = gs }) ≡ e → Ending f e
+      → Kept s (record s { tasks = ts; given = gs }) → Has s a → Has s b
+      → equated at a b (record s { tasks = ts; given = gs }) ≡ e → Ending f e
       → Equal f scope s e gs a b
   made_equal f scope s e ts gs at a b kept has_a has_b is ending =
       let t : Inference = record s { tasks = ts; given = gs } in
@@ -302,8 +302,8 @@ module _ (l : GraphLaws) (p : Parts) where
         (follows_given l p scope (new_variable s).state s.tasks (answer ∷ s.given)
         (given_kept _ _ answer (kept_here s _ made) there))
         (follows_leads p scope t u u_here (type_leads l s t t_kept 15 (given ∷ answer ∷ []) p both))) in
-        let end : HasRoom (equated at found n u).types × (((equated at found n u).end ≡ None) × Reads f
-        (equated at found n u).types) =
+        let end : HasRoom (equated at found n u).types ×
+        (((equated at found n u).end ≡ None) × Reads f (equated at found n u).types) =
         subst (λ (x : Inference). HasRoom x.types × ((x.end ≡ None) × Reads f x.types)) (sym is)
         (ending.room, (ending.on, ending.reads)) in
         let equal = equated_equal l s u u_kept at found n found_u n_is end.0 end.1.0 f end.1.1 in
@@ -326,8 +326,8 @@ module _ (l : GraphLaws) (p : Parts) where
 
     known_done :
         (is_function : Bool) (a b : Option ℕ) → is_of (form_of s.types.nodes found) 15 2 ≡ is_function
-        → argument_of s.types.arguments (form_of s.types.nodes found) 0 ≡ a → argument_of s.types.arguments
-        (form_of s.types.nodes found) 1 ≡ b
+        → argument_of s.types.arguments (form_of s.types.nodes found) 0 ≡ a
+        → argument_of s.types.arguments (form_of s.types.nodes found) 1 ≡ b
         → Kept s s → s.given ≡ gs → Has s given → Has s found → HasIf s a → HasIf s b
         → applied_known is_function a b at here given found s ≡ e → Ending f e → Applying f scope s e given found gs
     known_done true (Some a) (Some b) is first second kept under has_given has_found has_a has_b end ending =

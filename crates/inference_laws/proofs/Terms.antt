@@ -205,10 +205,6 @@ module _ (l : GraphLaws) (p : Parts) (s0 s : Inference) (kept : Kept s0 s) where
       (λ room. part_there (length s.types.nodes) g.parts 0 (there room) (kept.whole room).types.built_in)
   compared_kept _ at g there = kept
 
-  -- what is given to the form round the one at hand
-  pub given_on : (t : ℕ) → Has s t → Kept s0 (given_back t s)
-  given_on t has = given_kept s0 s t kept has
-
 module _ (l : GraphLaws) (p : Parts) where
   operation_so :
       (s0 s : Inference) (op : Operation) (at : Place) (ns : List ℕ) (g : Signature) → Kept s0 s → HasAll s g.parts

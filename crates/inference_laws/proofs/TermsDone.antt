@@ -98,8 +98,8 @@ module _ (l : GraphLaws) (p : Parts) (f : ℕ → Ty) (tops : Tops) (vs : ℕ �
 
   -- the step by which a term is entered
   pub step_of :
-      (n : ℕ) (node : TermNode) (s : Inference) → slice_get p.terms n ≡ Some node → acted
-      (task.Term n) p s ≡ term_of node.form p n node.place s
+      (n : ℕ) (node : TermNode) (s : Inference) → slice_get p.terms n ≡ Some node
+      → acted (task.Term n) p s ≡ term_of node.form p n node.place s
   unfolding acted
   step_of n node s is = ap (λ (o : Option TermNode). term_node o p n s) is
 

@@ -202,8 +202,8 @@ module _ (l : GraphLaws) (p : Parts) (s0 s : Inference) (kept : Kept s0 s) where
 
 module _ (l : GraphLaws) (p : Parts) where
   finished_so :
-      (steps : ℕ) → ((s0 s : Inference) → Kept s0 s → Kept s0 (finished steps p s)) → (s0 s : Inference) (o : Option End)
-      (ts : List Task)
+      (steps : ℕ) → ((s0 s : Inference) → Kept s0 s → Kept s0 (finished steps p s))
+      → (s0 s : Inference) (o : Option End) (ts : List Task)
       → s.end ≡ o → s.tasks ≡ ts → Kept s0 s
       → Kept s0 (onward (next_of o ts s).task (next_of o ts s).state (λ t. finished steps p (acted t p (next_of o ts s).state)))
   finished_so steps others s0 s (Some e) ts is has kept = kept

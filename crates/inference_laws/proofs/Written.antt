@@ -170,8 +170,8 @@ module _ (l : GraphLaws) (p : Parts) (vars : Variables) (at : Place) where
 
 -- a type is the one that is written, if one is
 pub annotated_kept :
-    (l : GraphLaws) (p : Parts) (at : Place) (s0 s : Inference) (t : ℕ) (w : Option ℕ) → Kept s0 s → Has s t → Kept s0
-    (annotated_if p at t w s)
+    (l : GraphLaws) (p : Parts) (at : Place) (s0 s : Inference) (t : ℕ) (w : Option ℕ) → Kept s0 s → Has s t
+    → Kept s0 (annotated_if p at t w s)
 annotated_kept l p at s0 s t None kept has = kept
 annotated_kept l p at s0 s t (Some w) kept has =
     let u = written p w variables.OfItem at s in

@@ -67,8 +67,8 @@ MutableIsRuled =
 abbrev pub RecordIsRuled : Type 0
 RecordIsRuled =
     (p : Parts) (most t : ℕ) (part : FieldPart) (parts : List FieldPart) (s : Inference) → t < length p.type_rows
-    → length p.field_rows ≤ 4294967295 → s.fields ≡ (begun p most).fields → (names_each p t (part ∷ parts) s).value ≡ true →
-    (ts : Tys)
+    → length p.field_rows ≤ 4294967295 → s.fields ≡ (begun p most).fields → (names_each p t (part ∷ parts) s).value ≡ true
+    → (ts : Tys)
     → NamesEachField (program p) (map (λ a. a.field) (part ∷ parts)) (Constructed t ts)
 
 -- a task changes nothing in what is counted of fields and constructors
