@@ -14,7 +14,7 @@ let closed session =
       exnc = (function Unhandled _ -> print_endline " broken" | e -> raise e);
       effc = function _ -> None }
 
-let rec opened count session value =
+let rec opened count session (value : int) =
   continue_with session value
     { retc = (fun () -> print_endline " not closed");
       exnc = raise;

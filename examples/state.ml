@@ -10,7 +10,7 @@ let with_state first computation =
   let run =
     match computation () with
     | value -> (fun state -> (value, state))
-    | effect Get, k -> (fun state -> continue k state state)
+    | effect Get, k -> (fun (state : int) -> continue k state state)
     | effect (Put state), k -> (fun _ -> continue k () state)
   in
   run first

@@ -8,6 +8,8 @@ use std::{env, io};
 
 #[cfg(test)]
 mod tests;
+#[cfg(test)]
+mod worked;
 
 // The command words, without the program's own name.
 fn command_words(rt: &HostRuntime) -> io::Result<Vec<String>> {

@@ -2,6 +2,7 @@
 
 ghost use Rattle.std.specs.Prelude.{◌≡◌, None, IfOk};
 
+use crate::worked::{LARGE, WORKED, Worked};
 use effects_top::{Outcome, check_file, compile_file, effects_main, run_file};
 use fx_base::{MemFiles, MemSink, NamedFile, NoGate, Refusal, Settings, Turns, Written};
 use rv_model::RunEnd;
@@ -144,13 +145,21 @@ fn checks_compiles_and_runs_a_file(rt: HostRuntime) -> Result<(), Fail> {
 fn refuses_texts(rt: HostRuntime) -> Result<(), Fail> {
     let later = (63, "error: later at 1:1\n");
     for (words, text, (status, line)) in [
-        (["run", "a.ml"].as_slice(), "", later),
         (
             ["run", "a.ml"].as_slice(),
-            "let f x = print_int x; x\nlet () = print_int (f 1 + f 2)\n",
+            "let f () = Domain.join (Domain.spawn (fun () -> 1))",
             later,
         ),
-        (["asm", "a.ml"].as_slice(), "let () = ()", later),
+        (
+            ["asm", "a.ml"].as_slice(),
+            "open Domain let x : int Domain.t option = None",
+            later,
+        ),
+        (
+            ["run", "a.ml"].as_slice(),
+            "let () = try () with Fiberq.Full -> ()",
+            later,
+        ),
         (
             ["run", "a.ml"].as_slice(),
             "let () = print_int6",
@@ -183,6 +192,83 @@ fn refuses_texts(rt: HostRuntime) -> Result<(), Fail> {
         );
         assert_eq!(rt; left.out.held(), b"".as_slice(), "{text}");
         assert_eq!(rt; left.err.held(), line.as_bytes(), "{text}");
+    }
+    Ok(())
+}
+
+// `run a.ml` and further words.
+fn run_words<'b>(alloc: Global, options: &[&'b str]) -> Result<Vec<&'b str>, AllocError> {
+    let mut words = Vec::new(alloc);
+    words.push("run")?;
+    words.push("a.ml")?;
+    words.extend_from_slice(options)?;
+    Ok(words)
+}
+
+fn run_worked<R: Threads + Wait>(rt: &R, alloc: Global, worked: &Worked) -> Result<Left, Refusal> {
+    let words = run_words(alloc, worked.options)?;
+    call(rt, alloc, &words, worked.text.as_bytes(), NONE)
+}
+
+// Whether a call left what the program has.
+fn is_as_worked(left: &Left, worked: &Worked) -> bool {
+    left.outcome.status.0 == worked.status
+        && left.out.held() == worked.printed.as_bytes()
+        && left.err.held() == worked.line.as_bytes()
+}
+
+// The text of the first program of which something else becomes.
+fn first_miss<R: Threads + Wait>(
+    rt: &R,
+    alloc: Global,
+    programs: &[Worked],
+) -> Result<Option<&'static str>, Refusal> {
+    for worked in programs {
+        let left = run_worked(rt, alloc, worked)?;
+        if !is_as_worked(&left, worked) {
+            return Ok(Some(worked.text));
+        }
+    }
+    Ok(None)
+}
+
+#[test]
+fn runs_worked_programs(rt: HostRuntime) -> Result<(), Fail> {
+    assert_eq!(rt; first_miss(&rt, rt.alloc(), WORKED)?, None);
+    Ok(())
+}
+
+#[test]
+fn runs_large_programs(rt: HostRuntime) -> Result<(), Fail> {
+    assert_eq!(rt; first_miss(&rt, rt.alloc(), LARGE)?, None);
+    Ok(())
+}
+
+// What becomes of `demo 2`, and of a file of 1,048,576 blanks: the status, and what is written to the
+// output and to standard error.
+const DEMO: (u8, &str, &str) = (0, "8", "");
+
+const BLANKS: (u8, &str, &str) = (0, "", "");
+
+const MADE_TWO: &str = "let f0 x = x\nlet f1 x = (2 * f0 x + 1) mod 1000000\n\
+                        let f2 x = (2 * f1 x + 2) mod 1000000\nlet () = print_int (f2 1)\n";
+
+#[test]
+fn makes_programs(rt: HostRuntime) -> Result<(), Fail> {
+    for (words, faults, (status, out, line)) in [
+        (["make", "2"], NONE, (0, MADE_TWO, "")),
+        (["make", "0000000002"], NONE, (0, MADE_TWO, "")),
+        (
+            ["make", "2"],
+            writing(&[1], 7),
+            (69, "let f0 ", "error: output\n"),
+        ),
+        (["demo", "2"], NONE, DEMO),
+    ] {
+        let left = call(&rt, rt.alloc(), words.as_slice(), b"", faults)?;
+        assert_eq!(rt; left.outcome.status.0, status, "{out}{line}");
+        assert_eq!(rt; left.out.held(), out.as_bytes(), "{out}{line}");
+        assert_eq!(rt; left.err.held(), line.as_bytes(), "{out}{line}");
     }
     Ok(())
 }
@@ -269,6 +355,17 @@ fn refuses_words(rt: HostRuntime) -> Result<(), Fail> {
         "check -a.ml",
         "check a.ml b.ml",
         "check a.ml --heap 20000",
+        "make",
+        "make 0",
+        "make 501",
+        "make 00000000001",
+        "make -1",
+        "make 1 2",
+        "make a.ml",
+        "demo",
+        "demo 0",
+        "demo 501",
+        "demo 1 --heap 20000",
     ] {
         let words = split(rt.alloc(), line)?;
         let left = call(&rt, rt.alloc(), &words, ANSWER.as_bytes(), NONE)?;
@@ -299,14 +396,12 @@ fn takes_options(rt: HostRuntime) -> Result<(), Fail> {
 
 #[test]
 fn refuses_long_files(rt: HostRuntime) -> Result<(), Fail> {
-    for (count, status, line) in [
-        (1_048_576usize, 63, "error: later at 1:1\n"),
-        (1_048_577, 67, "error: limit source 1048577 1048576\n"),
-    ] {
+    let long = (67, "", "error: limit source 1048577 1048576\n");
+    for (count, (status, out, line)) in [(1_048_576usize, BLANKS), (1_048_577, long)] {
         let blanks = vec![in rt.alloc(); b' '; count]?;
         let left = call(&rt, rt.alloc(), &["run", "a.ml"], &blanks, NONE)?;
         assert_eq!(rt; left.outcome.status.0, status);
-        assert_eq!(rt; left.out.held(), b"".as_slice());
+        assert_eq!(rt; left.out.held(), out.as_bytes());
         assert_eq!(rt; left.err.held(), line.as_bytes());
     }
     Ok(())

@@ -1,7 +1,7 @@
 -- Readings of command words, by computation.
 use Rattle.std.proofs.Common.{◌≡◌, ℕ, List, [], ◌∷◌, Some, None, refl}
 use Rattle.std.specs.Prelude.{codes}
-use Rattle.effects_top.specs.Words.{Numbers, Assemble, Run, asked}
+use Rattle.effects_top.specs.Words.{Numbers, Assemble, Run, Make, Demo, asked}
 
 usual : Numbers
 usual = record { heap = 1048576; stack = 131072; out = 1048576; budget = 1073741824; domains = 4 }
@@ -52,3 +52,19 @@ unknown = refl
 
 turns_for_listing : asked (codes "asm" ∷ codes "a.ml" ∷ codes "--turns" ∷ codes "5" ∷ []) ≡ None
 turns_for_listing = refl
+
+-- the number of a made program
+made : asked (codes "make" ∷ codes "012" ∷ []) ≡ Some (Make 12)
+made = refl
+
+demo : asked (codes "demo" ∷ codes "500" ∷ []) ≡ Some (Demo 500)
+demo = refl
+
+none_of_zero : asked (codes "make" ∷ codes "0" ∷ []) ≡ None
+none_of_zero = refl
+
+none_above : asked (codes "demo" ∷ codes "501" ∷ []) ≡ None
+none_above = refl
+
+one_number : asked (codes "make" ∷ codes "1" ∷ codes "2" ∷ []) ≡ None
+one_number = refl

@@ -16,6 +16,7 @@ mod Instructions
 mod Integers
 mod Integral
 mod LogBytes
+mod MadeShort
 mod Printing
 mod Refusing
 mod Reporting

@@ -7,7 +7,7 @@ use Rattle.fx_base.specs.declared.refusal.Refusal.TheVariants.{Usage, File, Synt
 use Rattle.rv_model.specs.declared.image.Image.{Image}
 use Rattle.effects_top.specs.declared.outcome.Outcome.{Outcome}
 use Rattle.effects_top.specs.Words.{Numbers, numbers_of}
-use Rattle.effects_top.specs.Checked.{IsRead, IsCompileBreach, IsFileRefusal, not_yet}
+use Rattle.effects_top.specs.Checked.{IsRead, IsUnbuilt, IsCompileBreach, IsFileRefusal}
 use Rattle.effects_top.specs.Source.{source_limit}
 use Rattle.effects_top.specs.Expression.{Expression}
 use Rattle.effects_top.specs.Form.{IsFormOf}
@@ -66,7 +66,7 @@ file_refused o refusal name numbers told opened taken faults faults' err err' e 
     record {
       opened = open_;
       read = λ bytes holds. no_image (λ (i : Image). IsRead bytes);
-      stands = λ bytes holds. no_image (IsImageOf name bytes);
+      stands = λ bytes holds form. no_image (IsImageOf name bytes);
       settings = no_image (λ (i : Image). numbers_of i.settings ≡ numbers);
       usage = usage_is_not o refusal None err err' e e' refused is;
       file = file_rose o refusal None err err' e e' refused Image faults faults' file;
@@ -80,10 +80,9 @@ file_refused o refusal name numbers told opened taken faults faults' err err' e 
         by None is_none = tt
         by (Some i) is_none = absurd (cc)
 
--- a program that isn't of the form doesn't compile yet
+-- a program that isn't of the form may not be built
 pub compile_breach : (bytes : List ℕ) (r : Result Image Refusal) → IsRead bytes
-    → IfErr r (λ refusal. refusal ≡ not_yet → (e : Expression) → IsFormOf bytes e → ⊥)
-    → IfErr r (λ refusal. (refusal ≡ not_yet) ⊎ (refusal ≡ Memory)) → IfErr r (IsCompileBreach bytes)
-compile_breach bytes (Ok image) accepted form others = tt
-compile_breach bytes (Err refusal) accepted form (inl is) = inr (is, record { read = accepted; other_form = form is })
-compile_breach bytes (Err refusal) accepted form (inr is) = inl (rw is tt)
+    → IfErr r (λ refusal. (refusal ≡ Memory) ⊎ (IsUnbuilt refusal × ((e : Expression) → IsFormOf bytes e → ⊥))) → IfErr r (IsCompileBreach bytes)
+compile_breach bytes (Ok image) accepted refused = tt
+compile_breach bytes (Err refusal) accepted (inl is) = inl (rw is tt)
+compile_breach bytes (Err refusal) accepted (inr why) = inr (why.0, record { read = accepted; other_form = why.1 })

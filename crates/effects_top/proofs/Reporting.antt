@@ -13,7 +13,7 @@ use Rattle.rv_model.specs.declared.hart.Hart.{Hart as HartState}
 use Rattle.rv_model.specs.declared.image.Image.{Image}
 use Rattle.rv_model.specs.declared.report.Report.{Report}
 use Rattle.rv_model.specs.declared.report.RunEnd.{RunEnd}
-use Rattle.rv_model.specs.declared.report.RunEnd.TheVariants.{BudgetSpent, Deadlock}
+use Rattle.rv_model.specs.declared.report.RunEnd.TheVariants.{BudgetSpent, Deadlock, Broken}
 use Rattle.rv_model.specs.declared.layout.TheConstants.{END_WORD}
 use Rattle.rv_model.specs.Machine.{Hart, Move, Goes, hart_of, words_of}
 use Rattle.rv_model.specs.Layout.{end}
@@ -26,7 +26,8 @@ use Rattle.serial_runner.specs.Turns.{is_spent}
 use Rattle.serial_runner.specs.Ending.{unfinished, end_or}
 use Rattle.serial_runner.proofs.Counts.{any_seen}
 use Rattle.effects_top.specs.Standing.{slots_of, stacks_of, retired_by, IsResting, IsGoing, Stands, StandsFor, ShowsRun, EndsAs, joined_pieces}
-use Rattle.effects_top.specs.Headline.{IsRunOf, IsReportOf}
+use Rattle.serial_runner.specs.Reported.{IsRunOf}
+use Rattle.effects_top.specs.Headline.{IsReportOf}
 
 -- hart k of these has spent its budget, and the end of the unfinished run names it, the first hart being number i
 record Spent (budget i : ℕ) (harts : List HartState) : Type 0 where
@@ -85,8 +86,11 @@ not_over image s kind none unspent over = by (s.words END_WORD == 0) refl
     by false e = told (λ zero_then. apart (sym e ∙ ap (λ n. n == 0) zero_then))
 
 pub shown : (p : Program) (image : Image) (turns : ℕ) (r : Report) → Stands p image → IsRunOf image turns r → IsReportOf p image r
-shown p image turns r stands run = record { run = shown_run; printed = run.printed ∙ here.output; ends = by_end (end (words_of r.words)) refl here.ends }
+shown p image turns r stands run = record { run = shown_run; printed = run.printed kept ∙ here.output; ends = by_end (end (words_of r.words)) refl here.ends }
   where
+    kept : r.end ≢ Broken
+    kept = run.kept stands.runs
+
     list : List ℕ
     list = run.reach.1.0
 
@@ -106,7 +110,7 @@ shown p image turns r stands run = record { run = shown_run; printed = run.print
     budget = image.settings.budget
 
     unfinished_ends : (e : RunEnd) → end (words_of r.words) ≡ None → unfinished budget 0 r.harts ≡ e → r.end ≡ e
-    unfinished_ends e none is = run.end ∙ ap (end_or (unfinished budget 0 r.harts)) none ∙ is
+    unfinished_ends e none is = run.end kept ∙ ap (end_or (unfinished budget 0 r.harts)) none ∙ is
 
     as_told : (e : RunEnd) → r.end ≡ e → EndsAs p image moment shown_run (Some e) → EndsAs p image moment shown_run (Some r.end)
     as_told e is ends = subst (λ (x : RunEnd). EndsAs p image moment shown_run (Some x)) (sym is) ends
@@ -125,12 +129,12 @@ shown p image turns r stands run = record { run = shown_run; printed = run.print
         ⊎_elim
         (λ over. absurd (not_over image moment (reaches_sound image moment stands.runs run.reach.1).kind none (sym (any_seen budget r.harts) ∙ unspent.none) over))
         (λ still i h next at. stays (move_of image moment.words h) next (still i h at))
-        run.serial.3
+        (run.serial kept).3
 
     by_rest : end (words_of r.words) ≡ None → IsGoing p image moment shown_run → Unspent budget 0 r.harts → EndsAs p image moment shown_run (Some r.end)
     by_rest none going unspent =
         as_told Deadlock (unfinished_ends Deadlock none unspent.named) (record { running = going.running; says = going.settled (resting none unspent) })
 
     by_end : (o : Option RunEnd) → end (words_of r.words) ≡ o → EndsAs p image moment shown_run o → EndsAs p image moment shown_run (Some r.end)
-    by_end (Some told) is ends = as_told told (run.end ∙ ap (end_or (unfinished budget 0 r.harts)) is) ends
+    by_end (Some told) is ends = as_told told (run.end kept ∙ ap (end_or (unfinished budget 0 r.harts)) is) ends
     by_end None is going = ⊎_elim (by_budget is going) (by_rest is going) (unfinished_by budget 0 r.harts)

@@ -54,8 +54,8 @@ after_option front seen word text number name words s option same same' named nu
     ∙ ap (option_and_then (said_by words)) (rw (named, numbered) at (sym said))
 
 -- the file of a command
-pub asked_file : (o : Option Asked) (mine a : Asked) → Some mine ≡ o → o ≡ Some a → file_of mine ≡ file_of a
-asked_file o mine a is asks = let e : Some mine ≡ Some a = is ∙ asks in let same : mine ≡ a = cc in ap file_of same
+pub asked_file : (o : Option Asked) (mine : Asked) (file named : List ℕ) → Some mine ≡ o → file_of mine ≡ Some file → option_and_then file_of o ≡ Some named → file ≡ named
+asked_file o mine file named is mine_names names = let e : Some file ≡ Some named = sym mine_names ∙ ap (option_and_then file_of) is ∙ names in cc
 
 -- the turns of a run
 pub run_turns_are : (o : Option Asked) (file file' : List ℕ) (numbers numbers' : Numbers) (turns turns' : ℕ) → Some (Run file numbers turns) ≡ o → o ≡ Some (Run file' numbers' turns') → turns ≡ turns'

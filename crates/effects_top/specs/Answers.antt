@@ -6,7 +6,7 @@ use Rattle.fx_base.specs.declared.refusal.LimitKind.TheVariants.{Source, Depth, 
 use Rattle.fx_base.specs.declared.refusal.Refusal.{Refusal}
 use Rattle.fx_base.specs.declared.refusal.Refusal.TheVariants.{Usage, File, Syntax, Name, IllTyped, Limit, Later, Memory}
 use Rattle.rv_model.specs.declared.report.RunEnd.{RunEnd}
-use Rattle.rv_model.specs.declared.report.RunEnd.TheVariants.{Exited, Uncaught, HeapFull, StackFull, CallsFull, OutputFull, BudgetSpent, Deadlock}
+use Rattle.rv_model.specs.declared.report.RunEnd.TheVariants.{Exited, Uncaught, HeapFull, StackFull, CallsFull, OutputFull, BudgetSpent, Deadlock, Broken}
 
 -- the status of a refusal
 abbrev pub refusal_status : Refusal → ℕ
@@ -52,6 +52,7 @@ end_status (CallsFull active) = 72
 end_status (OutputFull used asked size) = 73
 end_status (BudgetSpent hart count) = 74
 end_status Deadlock = 75
+end_status Broken = 78
 
 -- the line of the end of a run; none after an exit
 abbrev pub end_line : RunEnd → List ℕ
@@ -63,6 +64,7 @@ end_line (CallsFull active) = codes "error: calls full " ++ (decimal active ++ c
 end_line (OutputFull used asked size) = codes "error: log full " ++ (decimal used ++ (codes " " ++ (decimal asked ++ (codes " " ++ (decimal size ++ codes "\n")))))
 end_line (BudgetSpent hart count) = codes "error: budget spent " ++ (decimal hart ++ (codes " " ++ (decimal count ++ codes "\n")))
 end_line Deadlock = codes "error: deadlock\n"
+end_line Broken = codes "error: broken\n"
 
 -- the line where the output failed
 abbrev pub output_line : List ℕ

@@ -9,10 +9,11 @@ use Rattle.ml_syntax.specs.declared.prog.Prog.{Prog}
 use Rattle.ml_syntax.specs.Depth.{depth}
 use Rattle.ml_parser.specs.Parsed.{Parsed, Refused}
 use Rattle.ml_infer.specs.Refused.{IsTypeOrMemory}
+use Rattle.image_build.specs.Building.{IsBuildRefusal}
 use Rattle.effects_top.specs.Source.{source_limit}
 use Rattle.effects_top.specs.Expression.{Expression}
 use Rattle.effects_top.specs.Form.{IsFormOf}
-use Rattle.effects_top.specs.Words.{Asked, Check, Assemble, Run}
+use Rattle.effects_top.specs.Words.{Asked, Check, Assemble, Run, Make, Demo}
 
 -- these are the tokens of a text, and the place behind it
 pub record IsLexed (bytes : List ℕ) (text : LexedText) : Type 0 where
@@ -48,18 +49,22 @@ IsBreach bytes Usage = ⊥
 IsBreach bytes File = ⊥
 IsBreach bytes (Later place) = ⊥
 
--- the text is read as a program that isn't of the form that compiles
+-- the text is read as a program that isn't of the form `let () = print_int A`
 pub record IsUncompiled (bytes : List ℕ) : Type 0 where
   pub read : IsRead bytes
   pub other_form : (e : Expression) → IsFormOf bytes e → ⊥
 
--- the refusal of a program that doesn't compile yet
+-- the refusal of a program that uses domains
 abbrev pub not_yet : Refusal
 not_yet = Later (record { line = 1; column = 1 })
 
--- why a text isn't compiled: it doesn't pass `check`, or it doesn't compile yet
+-- why a program of another form isn't compiled: it uses domains, which don't compile yet, or it isn't built
+abbrev pub IsUnbuilt : Refusal → Type 0
+IsUnbuilt refusal = (refusal ≡ not_yet) ⊎ IsBuildRefusal refusal
+
+-- why a text isn't compiled: it doesn't pass `check`, or it is read as a program of another form that isn't built
 abbrev pub IsCompileBreach : List ℕ → Refusal → Type 0
-IsCompileBreach bytes refusal = IsBreach bytes refusal ⊎ ((refusal ≡ not_yet) × IsUncompiled bytes)
+IsCompileBreach bytes refusal = IsBreach bytes refusal ⊎ (IsUnbuilt refusal × IsUncompiled bytes)
 
 -- why a file is refused, of which so many bytes were taken while its faults went from the first number to the second: reading
 -- failed, it has too many bytes, or this is wrong with its text
@@ -72,6 +77,8 @@ abbrev pub IsWrongFor : Asked → List ℕ → Refusal → Type 0
 IsWrongFor (Check file) = IsBreach
 IsWrongFor (Assemble file numbers) = IsCompileBreach
 IsWrongFor (Run file numbers turns) = IsCompileBreach
+IsWrongFor (Make number) = λ bytes refusal. ⊥
+IsWrongFor (Demo number) = λ bytes refusal. ⊥
 
 -- which refusals a file may get at all
 abbrev pub IsFileRefusal : Refusal → Type 0

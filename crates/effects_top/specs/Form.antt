@@ -53,3 +53,8 @@ pub record IsFormOf (bytes : List ℕ) (e : Expression) : Type 0 where
   pub spelled : Spells bytes tokens
   pub derived : DerivesFile tokens e
   pub few : literals e ≤ 1000
+
+-- the text is of the form
+pub record IsOfForm (bytes : List ℕ) : Type 0 where
+  pub expression : Expression
+  pub form : IsFormOf bytes expression

@@ -5,6 +5,7 @@ use Rattle.fx_base.specs.declared.settings.Written.{Written}
 use Rattle.fx_base.specs.declared.settings.Written.TheVariants.{Whole, Failed}
 use Rattle.rv_model.specs.declared.image.Image.{Image}
 use Rattle.rv_model.specs.declared.report.Report.{Report}
+use Rattle.prelude_ml.specs.MadeText.{made_text}
 use Rattle.rv_asm.specs.Listing.{listed}
 use Rattle.effects_top.specs.declared.outcome.Outcome.{Outcome}
 use Rattle.effects_top.specs.Answers.{refusal_status, refusal_line, end_status, end_line, output_line}
@@ -65,3 +66,8 @@ Listed outcome i out out' out_faults out_faults' err err' faults faults' =
 abbrev pub Passed : Outcome → (out out' : Option (List ℕ)) (out_faults out_faults' : ℕ) (err err' : Option (List ℕ)) (faults faults' : ℕ) → Type 0
 Passed outcome out out' out_faults out_faults' err err' faults faults' =
     Answered outcome None None (codes "ok\n") 0 [] out out' out_faults out_faults' err err' faults faults'
+
+-- the made program was written: its answer is the text
+abbrev pub Made : Outcome → ℕ → (out out' : Option (List ℕ)) (out_faults out_faults' : ℕ) (err err' : Option (List ℕ)) (faults faults' : ℕ) → Type 0
+Made outcome number out out' out_faults out_faults' err err' faults faults' =
+    Answered outcome None None (made_text number) 0 [] out out' out_faults out_faults' err err' faults faults'

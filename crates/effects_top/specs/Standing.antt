@@ -10,7 +10,7 @@ use Rattle.effect_meaning.specs.EarlyEnds.{EarlyEnd, HeapFull, StackFull, CallsF
 use Rattle.fx_base.specs.declared.settings.Settings.{Settings}
 use Rattle.rv_model.specs.declared.image.Image.{Image}
 use Rattle.rv_model.specs.declared.report.RunEnd.{RunEnd}
-use Rattle.rv_model.specs.declared.report.RunEnd.TheVariants.{Exited as HasExited, Uncaught as IsUncaught, HeapFull as HeapIsFull, StackFull as StackIsFull, CallsFull as CallsAreFull, OutputFull as OutputIsFull, BudgetSpent as BudgetIsSpent, Deadlock as IsDeadlock}
+use Rattle.rv_model.specs.declared.report.RunEnd.TheVariants.{Exited as HasExited, Uncaught as IsUncaught, HeapFull as HeapIsFull, StackFull as StackIsFull, CallsFull as CallsAreFull, OutputFull as OutputIsFull, BudgetSpent as BudgetIsSpent, Deadlock as IsDeadlock, Broken as IsBroken}
 use Rattle.rv_model.specs.Machine.{Hart, Goes}
 use Rattle.rv_model.specs.Layout.{log, end}
 use Rattle.rv_model.specs.Run.{Machine, reached, IsWithinBudget, Runs, move_of}
@@ -57,6 +57,7 @@ EndsAs p image s r (Some (CallsAreFull active)) = IsCut p image s r (CallsFull a
 EndsAs p image s r (Some (OutputIsFull used asked size)) = IsCut p image s r (OutputFull used asked size)
 EndsAs p image s r (Some (BudgetIsSpent hart count)) = IsCut p image s r (BudgetSpent hart count)
 EndsAs p image s r (Some IsDeadlock) = IsCut p image s r Deadlock
+EndsAs p image s r (Some IsBroken) = ⊥
 
 -- a moment of the machine shows the run of this list: the log is its output, and the ends agree
 pub record ShowsRun (p : Program) (image : Image) (s : Machine) (list : List ℕ) : Type 0 where

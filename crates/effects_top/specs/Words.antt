@@ -48,10 +48,14 @@ most Turns = 1000000
 abbrev pub is_of : Choice → ℕ → Bool
 is_of choice n = nat_le (least choice) n && nat_le n (most choice)
 
--- the number that 1 to 10 decimal digits are, where it is one of the choice
+-- the number that 1 to 10 decimal digits are, where it is in this range
+abbrev pub number_within : ℕ → ℕ → List ℕ → Option ℕ
+number_within low high text =
+    if nat_lt 0 (length text) && nat_le (length text) 10 && are_digits text && (nat_le low (value_from 0 text) && nat_le (value_from 0 text) high) then Some (value_from 0 text) else None
+
+-- the number, where it is one of the choice
 abbrev pub number_of : Choice → List ℕ → Option ℕ
-number_of choice text =
-    if nat_lt 0 (length text) && nat_le (length text) 10 && are_digits text && is_of choice (value_from 0 text) then Some (value_from 0 text) else None
+number_of choice text = number_within (least choice) (most choice) text
 
 -- what words behind the command say
 pub record Said : Type 0 where
@@ -155,16 +159,21 @@ numbers_said s =
       domains = unwrap_or s.domains 4;
     }
 
--- what the command words ask for: whether the text of a file is a program, the listing of a file's image, or a run of a file's program in turns of so many instructions
+-- what the command words ask for: whether the text of a file is a program, the listing of a file's image, a run of a file's program
+-- in turns of so many instructions, the text of a made program, or a run of it
 pub data Asked : Type 0 where
   Check : (file : List ℕ) → Asked
   Assemble : (file : List ℕ) (numbers : Numbers) → Asked
   Run : (file : List ℕ) (numbers : Numbers) (turns : ℕ) → Asked
+  Make : (number : ℕ) → Asked
+  Demo : (number : ℕ) → Asked
 
 abbrev pub seen_command : Command → Asked
 seen_command (command.Check file) = Check file.now
 seen_command (command.Assemble file settings) = Assemble file.now (numbers_of settings)
 seen_command (command.Run file settings turns) = Run file.now (numbers_of settings) turns.count
+seen_command (command.Make number) = Make number.count
+seen_command (command.Demo number) = Demo number.count
 
 -- `check` takes a file and no options
 abbrev pub asked_check : List (List ℕ) → Option Asked
@@ -178,21 +187,33 @@ asked_listing s = if is_some s.turns then None else option_map (λ file. Assembl
 abbrev pub asked_run : Said → Option Asked
 asked_run s = option_map (λ file. Run file (numbers_said s) (unwrap_or s.turns 1000)) s.file
 
+-- `make` and `demo` take the number of a made program and no options
+abbrev pub number_alone : List (List ℕ) → Option ℕ
+number_alone (text ∷ []) = number_within 1 500 text
+number_alone _ = None
+
 -- what the words ask for; none where they have no reading
 abbrev pub asked : List (List ℕ) → Option Asked
 asked [] = None
 asked (command ∷ words) =
     if bytes_eq command (codes "check") then asked_check words
     else if bytes_eq command (codes "asm") then option_and_then asked_listing (said_by words nothing)
-    else if bytes_eq command (codes "run") then option_and_then asked_run (said_by words nothing) else None
+    else if bytes_eq command (codes "run") then option_and_then asked_run (said_by words nothing)
+    else if bytes_eq command (codes "make") then option_map Make (number_alone words)
+    else if bytes_eq command (codes "demo") then option_map Demo (number_alone words) else None
 
-abbrev pub file_of : Asked → List ℕ
-file_of (Check file) = file
-file_of (Assemble file numbers) = file
-file_of (Run file numbers turns) = file
+-- the file that a command names; a made program stands in none
+abbrev pub file_of : Asked → Option (List ℕ)
+file_of (Check file) = Some file
+file_of (Assemble file numbers) = Some file
+file_of (Run file numbers turns) = Some file
+file_of (Make number) = None
+file_of (Demo number) = None
 
--- the settings of a command that compiles; `check` has the usual ones
+-- the settings of a command that compiles; the others have the usual ones
 abbrev pub numbers_asked : Asked → Numbers
 numbers_asked (Check file) = numbers_said nothing
 numbers_asked (Assemble file numbers) = numbers
 numbers_asked (Run file numbers turns) = numbers
+numbers_asked (Make number) = numbers_said nothing
+numbers_asked (Demo number) = numbers_said nothing

@@ -49,6 +49,7 @@ pub fn end_status(end: &RunEnd) -> Status
         RunEnd::OutputFull { .. } => 73,
         RunEnd::BudgetSpent { .. } => 74,
         RunEnd::Deadlock => 75,
+        RunEnd::Broken => 78,
     })
 }
 
@@ -179,5 +180,6 @@ pub fn tell_end<S: Sink>(sink: &mut S, end: &RunEnd) -> Written
             tell_two(sink, b"error: budget spent ", *hart as u64, *count)
         }
         RunEnd::Deadlock => write_all(sink, b"error: deadlock\n"),
+        RunEnd::Broken => write_all(sink, b"error: broken\n"),
     }
 }

@@ -1,25 +1,32 @@
 //! A file's program: its image, and a run of it.
 
-ghost use Rattle.std.specs.Prelude.{◌≡◌, ℕ, ◌≤◌, ◌⊎◌, ◌↔◌, List, None, Some, IfOk, IfErr, OnErr, IsErrOf, length};
+ghost use Rattle.std.specs.Prelude.{◌≡◌, ℕ, ◌≤◌, ◌⊎◌, ◌↔◌, List, None, Some, IfOk, IfErr, OnErr, IsErrOf, IsTrue, length};
 ghost use Rattle.fx_base.specs.Faults.{Rose};
 ghost use Rattle.fx_base.specs.Told.{Holds};
-ghost use Rattle.rv_model.specs.Run.{Runs};
+ghost use Rattle.prelude_ml.specs.MadeText.{made_text};
+ghost use Rattle.effects_top.specs.Domains.{uses_domains};
 ghost use Rattle.effects_top.specs.Expression.{Expression};
-ghost use Rattle.effects_top.specs.Form.{IsFormOf};
-ghost use Rattle.effects_top.specs.Headline.{IsImageOf, IsRunOf, Shows};
+ghost use Rattle.effects_top.specs.Form.{IsFormOf, IsOfForm};
+ghost use Rattle.serial_runner.specs.Reported.{IsRunOf};
+ghost use Rattle.effects_top.specs.Headline.{IsImageOf, Shows};
 ghost use Rattle.effects_top.specs.Source.{source_limit};
 ghost use Rattle.effects_top.specs.Output.{Wrote};
-ghost use Rattle.effects_top.specs.Checked.{IsRead, IsCompileBreach, IsCause, IsFileRefusal, not_yet};
+ghost use Rattle.effects_top.specs.Checked.{IsRead, IsUnbuilt, IsCompileBreach, IsCause, IsFileRefusal, not_yet};
 
 use crate::check::check_text;
 use crate::compile::compile;
+use crate::domains;
+use crate::made::MadeNumber;
 use crate::output::write_all;
 use crate::reader::read_form;
 use crate::source::read_source;
 use fx_base::{Files, Place, Refusal, Settings, Sink, Turns, Written};
+use image_build::build;
+use prelude_ml::make_program;
 use rv_model::{Image, Report};
 use serial_runner::run_serial;
 use std::alloc::Global;
+use type_terms::Typed;
 
 /// A program that was run: its image, the report of the run, and whether all that it printed was
 /// written.
@@ -30,16 +37,33 @@ pub struct Ran {
     pub written: Written,
 }
 
-// The image of the program that a text is, where it is of the form that compiles.
-fn image_of_text(alloc: Global, text: &[u8], settings: &Settings) -> Result<Image, Refusal>
-    ensures stands { (file : List ℕ) → IfOk result (IsImageOf file text.now) }
-    ensures runs { IfOk result (λ image. Runs image) }
+// The image of a program that isn't of the form.
+fn image_of_program(alloc: Global, typed: &Typed, settings: &Settings) -> Result<Image, Refusal>
     ensures settings { IfOk result (λ image. image.settings ≡ settings.now) }
-    ensures form { IfErr result (λ refusal. refusal ≡ not_yet → (e : Expression) → ¬ IsFormOf text.now e) }
-    ensures others { IfErr result (λ refusal. (refusal ≡ not_yet) ⊎ (refusal ≡ Refusal.Memory)) }
+    ensures later { IsErrOf result not_yet ↔ IsTrue (uses_domains typed.now.core) }
+    ensures refused { IfErr result IsUnbuilt }
+{
+    if domains::uses_domains(typed.core()) {
+        return Err(Refusal::Later(Place { line: 1, column: 1 }));
+    }
+    build(alloc, typed, settings)
+}
+
+// The image of the program that a text is, which has these types: a text of the form has its own
+// compiler.
+fn image_of_text(
+    alloc: Global,
+    text: &[u8],
+    typed: &Typed,
+    settings: &Settings,
+) -> Result<Image, Refusal>
+    ensures stands { (file : List ℕ) → IsOfForm text.now → IfOk result (IsImageOf file text.now) }
+    ensures settings { IfOk result (λ image. image.settings ≡ settings.now) }
+    ensures later { IsErrOf result not_yet → IsTrue (uses_domains typed.now.core) }
+    ensures refused { IfErr result (λ refusal. (refusal ≡ Refusal.Memory) ⊎ (IsUnbuilt refusal × ((e : Expression) → ¬ IsFormOf text.now e))) }
 {
     let Some(postfix) = read_form(alloc, text)? else {
-        return Err(Refusal::Later(Place { line: 1, column: 1 }));
+        return image_of_program(alloc, typed, settings);
     };
     Ok(compile(alloc, &postfix, settings)?)
 }
@@ -53,21 +77,21 @@ fn compile_text(
 ) -> Result<Image, Refusal>
     requires { length text.now ≤ 16777216 }
     ensures read { IfOk result (λ image. IsRead text.now) }
-    ensures stands { IfOk result (IsImageOf name.now text.now) }
-    ensures runs { IfOk result (λ image. Runs image) }
+    ensures stands { IsOfForm text.now → IfOk result (IsImageOf name.now text.now) }
     ensures settings { IfOk result (λ image. image.settings ≡ settings.now) }
     ensures refused { IfErr result (IsCompileBreach text.now) }
 {
-    check_text(alloc, text, name)?;
-    image_of_text(alloc, text, settings)
+    let typed = check_text(alloc, text, name)?;
+    image_of_text(alloc, text, &typed, settings)
 }
 
 /// The image of the program that a file holds, for these settings.
 ///
 /// # Errors
 ///
-/// Those of [`check_file`](crate::check_file), and `Later` at 1:1 where the program isn't of the
-/// form that compiles so far.
+/// Those of [`check_file`](crate::check_file); where the program isn't of the form
+/// `let () = print_int A`, `Later` at 1:1 where it uses domains, and `Limit` where a function has too
+/// many slots or free names or the image too many instructions.
 pub fn compile_file<F: Files>(
     alloc: Global,
     files: &mut F,
@@ -77,8 +101,7 @@ pub fn compile_file<F: Files>(
     requires { F.opened files.old ≡ None }
     ensures opened { (F.opened files.new ≡ None) ⊎ (F.opened files.new ≡ Some name.now) }
     ensures read { (bytes : List ℕ) → F.told files.old name.now ≡ Holds bytes → IfOk result (λ image. IsRead bytes) }
-    ensures stands { (bytes : List ℕ) → F.told files.old name.now ≡ Holds bytes → IfOk result (IsImageOf name.now bytes) }
-    ensures runs { IfOk result (λ image. Runs image) }
+    ensures stands { (bytes : List ℕ) → F.told files.old name.now ≡ Holds bytes → IsOfForm bytes → IfOk result (IsImageOf name.now bytes) }
     ensures settings { IfOk result (λ image. image.settings ≡ settings.now) }
     ensures refused { (bytes : List ℕ) → F.told files.old name.now ≡ Holds bytes
         → IfErr result (IsCause (IsCompileBreach bytes) (F.taken files.new) (F.faults files.old) (F.faults files.new)) }
@@ -91,6 +114,24 @@ pub fn compile_file<F: Files>(
     compile_text(alloc, &source, name, settings)
 }
 
+/// The image of the made program of a number, in a file whose name is `demo`.
+///
+/// # Errors
+///
+/// Those of a file that holds its text.
+pub fn compile_made(
+    alloc: Global,
+    number: MadeNumber,
+    settings: &Settings,
+) -> Result<Image, Refusal>
+    ensures read { IfOk result (λ image. IsRead (made_text number.count)) }
+    ensures settings { IfOk result (λ image. image.settings ≡ settings.now) }
+    ensures refused { IfErr result (IsCompileBreach (made_text number.count)) }
+{
+    let text = make_program(alloc, number.count)?;
+    compile_text(alloc, &text, "demo", settings)
+}
+
 /// Runs an image in turns, and writes what it prints.
 ///
 /// Refused only for want of memory; nothing is written then.
@@ -100,7 +141,6 @@ pub fn run_image<O: Sink>(
     turns: Turns,
     out: &mut O,
 ) -> Result<(Report, Written), Refusal>
-    requires { Runs image.now }
     ensures run { IfOk result (λ ran. IsRunOf image.now turns.count ran.0) }
     ensures wrote { IfOk result (λ ran. Wrote (O.held out.old) (O.held out.new) (O.faults out.old) (O.faults out.new) ran.0.printed ran.1) }
     ensures unwritten { OnErr result (O.held out.new ≡ O.held out.old) }
@@ -129,8 +169,8 @@ pub fn run_file<F: Files, O: Sink>(
     requires { F.opened files.old ≡ None }
     ensures opened { (F.opened files.new ≡ None) ⊎ (F.opened files.new ≡ Some name.now) }
     ensures read { (bytes : List ℕ) → F.told files.old name.now ≡ Holds bytes → IfOk result (λ ran. IsRead bytes) }
-    ensures stands { (bytes : List ℕ) → F.told files.old name.now ≡ Holds bytes → IfOk result (λ ran. IsImageOf name.now bytes ran.image) }
-    ensures shows { (bytes : List ℕ) → F.told files.old name.now ≡ Holds bytes → IfOk result (λ ran. Shows name.now bytes ran.image ran.report) }
+    ensures stands { (bytes : List ℕ) → F.told files.old name.now ≡ Holds bytes → IsOfForm bytes → IfOk result (λ ran. IsImageOf name.now bytes ran.image) }
+    ensures shows { (bytes : List ℕ) → F.told files.old name.now ≡ Holds bytes → IsOfForm bytes → IfOk result (λ ran. Shows name.now bytes ran.image ran.report) }
     ensures settings { IfOk result (λ ran. ran.image.settings ≡ settings.now) }
     ensures run { IfOk result (λ ran. IsRunOf ran.image turns.count ran.report) }
     ensures wrote { IfOk result (λ ran. Wrote (O.held out.old) (O.held out.new) (O.faults out.old) (O.faults out.new) ran.report.printed ran.written) }

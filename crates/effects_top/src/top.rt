@@ -1,25 +1,29 @@
 //! The top call.
 
-ghost use Rattle.std.specs.Prelude.{◌≡◌, ℕ, ◌≤◌, ◌⊎◌, ◌↔◌, List, [], None, Some, IsSome, IfOk, IfErr, IfSome, IsErrOf, Option, map, option_map};
+ghost use Rattle.std.specs.Prelude.{◌≡◌, ℕ, ◌≤◌, ◌⊎◌, ◌↔◌, List, [], None, Some, IsSome, IfOk, IfErr, IfSome, IsErrOf, Option, map, option_and_then};
 ghost use Rattle.std.specs.String.{string_bytes};
 ghost use Rattle.fx_base.specs.Faults.{Rose};
 ghost use Rattle.fx_base.specs.Told.{Holds};
-ghost use Rattle.rv_model.specs.Run.{Runs};
-ghost use Rattle.effects_top.specs.Words.{Numbers, Asked, file_of, numbers_of, numbers_asked, asked};
-ghost use Rattle.effects_top.specs.Words.{Check as AskedCheck, Assemble as AskedListing, Run as AskedRun};
+ghost use Rattle.prelude_ml.specs.MadeText.{made_text};
+ghost use Rattle.effects_top.specs.Words.{Numbers, Asked, file_of, numbers_of, numbers_said, nothing, numbers_asked, asked};
+ghost use Rattle.effects_top.specs.Words.{Check as AskedCheck, Assemble as AskedListing, Run as AskedRun, Make as AskedMake, Demo as AskedDemo};
+ghost use Rattle.effects_top.specs.Form.{IsOfForm};
 ghost use Rattle.effects_top.specs.Checked.{IsRead, IsBreach, IsCompileBreach, IsCause, IsWrongFor};
-ghost use Rattle.effects_top.specs.Headline.{IsImageOf, IsRunOf, IsTold, Shows, Compiles};
+ghost use Rattle.serial_runner.specs.Reported.{IsRunOf};
+ghost use Rattle.effects_top.specs.Headline.{IsImageOf, IsTold, Shows, Compiles};
 ghost use Rattle.effects_top.specs.Answers.{end_status, end_line};
 ghost use Rattle.effects_top.specs.Output.{Wrote};
-ghost use Rattle.effects_top.specs.Outcome.{IsRefusedWith, Refused, RefusedFor, Ran, Listed, Passed, answer_status, answer_line};
+ghost use Rattle.effects_top.specs.Outcome.{IsRefusedWith, Refused, RefusedFor, Ran, Listed, Passed, Made, answer_status, answer_line};
 
 use crate::answers::{end_status, refusal_status, tell_end, tell_refusal};
 use crate::check::check_file;
+use crate::made::MadeNumber;
 use crate::outcome::Outcome;
 use crate::output::write_all;
-use crate::program::{compile_file, run_image};
+use crate::program::{compile_file, compile_made, run_image};
 use crate::words::{Command, command_of};
 use fx_base::{Files, Gate, Refusal, Settings, Sink, Status, Turns, Written};
+use prelude_ml::make_program;
 use rv_asm::listing;
 use rv_model::{Image, Report, RunEnd};
 use std::alloc::Global;
@@ -200,7 +204,7 @@ fn run_program<F: Files, O: Sink, E: Sink>(
     ensures read { (bytes : List ℕ) (w : Written) → F.told files.old file.now ≡ Holds bytes → result.written ≡ Some w → IsRead bytes }
     ensures breach { (bytes : List ℕ) → F.told files.old file.now ≡ Holds bytes → result.written ≡ None
         → RefusedFor (IsCause (IsCompileBreach bytes) (F.taken files.new) (F.faults files.old) (F.faults files.new)) result (E.held err.old) (E.held err.new) (E.faults err.old) (E.faults err.new) }
-    ensures shows { (bytes : List ℕ) → F.told files.old file.now ≡ Holds bytes
+    ensures shows { (bytes : List ℕ) → F.told files.old file.now ≡ Holds bytes → IsOfForm bytes
         → (i : Image) (r : Report) → result.image ≡ Some i → result.report ≡ Some r → Shows file.now bytes i r }
     ensures refused { result.written ≡ None → (O.held out.new ≡ O.held out.old)
         × ((refusal : Refusal) × (i : Option Image) × Refused result refusal i (E.held err.old) (E.held err.new) (E.faults err.old) (E.faults err.new)) }
@@ -217,8 +221,54 @@ fn run_program<F: Files, O: Sink, E: Sink>(
     }
 }
 
+// Writes the made program of a number.
+fn write_made<O: Sink, E: Sink>(
+    alloc: Global,
+    out: &mut O,
+    err: &mut E,
+    number: MadeNumber,
+) -> Outcome
+    ensures image { result.image ≡ None }
+    ensures report { result.report ≡ None }
+    ensures made { (w : Written) → result.written ≡ Some w
+        → Made result number.count (O.held out.old) (O.held out.new) (O.faults out.old) (O.faults out.new) (E.held err.old) (E.held err.new) (E.faults err.old) (E.faults err.new) }
+    ensures refused { result.written ≡ None → (O.held out.new ≡ O.held out.old)
+        × RefusedFor (λ refusal. refusal ≡ Refusal.Memory) result (E.held err.old) (E.held err.new) (E.faults err.old) (E.faults err.new) }
+{
+    match make_program(alloc, number.count) {
+        Ok(program) => {
+            let written = write_all(out, &program);
+            passed(err, written)
+        }
+        Err(refusal) => refused(err, refusal, None),
+    }
+}
+
+// Runs the made program of a number.
+fn run_made<O: Sink, E: Sink>(
+    alloc: Global,
+    out: &mut O,
+    err: &mut E,
+    number: MadeNumber,
+) -> Outcome
+    ensures settings { IfSome result.image (λ i. numbers_of i.settings ≡ numbers_said nothing) }
+    ensures ran { (w : Written) → result.written ≡ Some w → IsRead (made_text number.count) × ((i : Image) × (r : Report)
+        × IsRunOf i 1000 r × Ran result i r (O.held out.old) (O.held out.new) (O.faults out.old) (O.faults out.new) (E.held err.old) (E.held err.new) (E.faults err.old) (E.faults err.new)) }
+    ensures refused { result.written ≡ None → (O.held out.new ≡ O.held out.old)
+        × RefusedFor (IsCompileBreach (made_text number.count)) result (E.held err.old) (E.held err.new) (E.faults err.old) (E.faults err.new) }
+{
+    let image = match compile_made(alloc, number, &Settings::usual()) {
+        Ok(image) => image,
+        Err(refusal) => return refused(err, refusal, None),
+    };
+    match run_image(alloc, &image, Turns::usual(), out) {
+        Ok((report, written)) => ran(err, image, report, written),
+        Err(refusal) => refused(err, refusal, Some(image)),
+    }
+}
+
 /// Does what the command words say: checks the file that they name, or compiles it and runs it, or
-/// lists its image.
+/// lists its image; or writes the made program of a number, or compiles and runs it.
 pub fn effects_main<R: Threads + Wait, F: Files, O: Sink, E: Sink, G: Gate>(
     _rt: &R,
     alloc: Global,
@@ -229,7 +279,7 @@ pub fn effects_main<R: Threads + Wait, F: Files, O: Sink, E: Sink, G: Gate>(
     _gate: &G,
 ) -> Outcome
     requires { F.opened files.old ≡ None }
-    ensures opened { (F.opened files.new ≡ None) ⊎ (F.opened files.new ≡ option_map file_of (asked (map string_bytes words.now))) }
+    ensures opened { (F.opened files.new ≡ None) ⊎ (F.opened files.new ≡ option_and_then file_of (asked (map string_bytes words.now))) }
 
     // Something was refused and nothing written to `out`, or the program was run, or its image listed, or
     // its check passed.
@@ -246,18 +296,30 @@ pub fn effects_main<R: Threads + Wait, F: Files, O: Sink, E: Sink, G: Gate>(
     ensures passed { (file : List ℕ) (w : Written) → asked (map string_bytes words.now) ≡ Some (AskedCheck file) → result.written ≡ Some w
         → Passed result (O.held out.old) (O.held out.new) (O.faults out.old) (O.faults out.new) (E.held err.old) (E.held err.new) (E.faults err.old) (E.faults err.new) }
 
+    // A made program was written, or run with the usual settings in turns of 1,000.
+    ensures made { (number : ℕ) (w : Written) → asked (map string_bytes words.now) ≡ Some (AskedMake number) → result.written ≡ Some w
+        → Made result number (O.held out.old) (O.held out.new) (O.faults out.old) (O.faults out.new) (E.held err.old) (E.held err.new) (E.faults err.old) (E.faults err.new) }
+    ensures made_refused { (number : ℕ) → asked (map string_bytes words.now) ≡ Some (AskedMake number) → result.written ≡ None
+        → RefusedFor (λ refusal. refusal ≡ Refusal.Memory) result (E.held err.old) (E.held err.new) (E.faults err.old) (E.faults err.new) }
+    ensures demo { (number : ℕ) (w : Written) → asked (map string_bytes words.now) ≡ Some (AskedDemo number) → result.written ≡ Some w
+        → IsRead (made_text number) × ((i : Image) × (r : Report)
+        × IsRunOf i 1000 r × Ran result i r (O.held out.old) (O.held out.new) (O.faults out.old) (O.faults out.new) (E.held err.old) (E.held err.new) (E.faults err.old) (E.faults err.new)) }
+    ensures demo_refused { (number : ℕ) → asked (map string_bytes words.now) ≡ Some (AskedDemo number) → result.written ≡ None
+        → RefusedFor (IsCompileBreach (made_text number)) result (E.held err.old) (E.held err.new) (E.faults err.old) (E.faults err.new) }
+
     // Where the file's bytes are told, only a program passes, and each refusal has its cause.
-    ensures read { (a : Asked) (bytes : List ℕ) (w : Written) → asked (map string_bytes words.now) ≡ Some a → F.told files.old (file_of a) ≡ Holds bytes
+    ensures read { (file bytes : List ℕ) (w : Written) → IsTold (F.told files.old) (map string_bytes words.now) file bytes
         → result.written ≡ Some w → IsRead bytes }
-    ensures breach { (a : Asked) (bytes : List ℕ) → asked (map string_bytes words.now) ≡ Some a → F.told files.old (file_of a) ≡ Holds bytes → result.written ≡ None
+    ensures breach { (a : Asked) (file bytes : List ℕ) → asked (map string_bytes words.now) ≡ Some a → file_of a ≡ Some file → F.told files.old file ≡ Holds bytes → result.written ≡ None
         → RefusedFor (IsCause (IsWrongFor a bytes) (F.taken files.new) (F.faults files.old) (F.faults files.new)) result (E.held err.old) (E.held err.new) (E.faults err.old) (E.faults err.new) }
 
-    // The image has the settings of the words. Where the file's bytes are told: it stands for the program
-    // that they are, and the report is that of a run of that program.
+    // The image has the settings of the words. Where the file's bytes are told and of the form
+    // `let () = print_int A`: it stands for the program that they are, and the report is that of a run of
+    // that program.
     ensures settings { (a : Asked) → asked (map string_bytes words.now) ≡ Some a → IfSome result.image (λ i. numbers_of i.settings ≡ numbers_asked a) }
-    ensures stands { (file bytes : List ℕ) → IsTold (F.told files.old) (map string_bytes words.now) file bytes
+    ensures stands { (file bytes : List ℕ) → IsTold (F.told files.old) (map string_bytes words.now) file bytes → IsOfForm bytes
         → IfSome result.image (IsImageOf file bytes) }
-    ensures shows { (file bytes : List ℕ) → IsTold (F.told files.old) (map string_bytes words.now) file bytes
+    ensures shows { (file bytes : List ℕ) → IsTold (F.told files.old) (map string_bytes words.now) file bytes → IsOfForm bytes
         → (i : Image) (r : Report) → result.image ≡ Some i → result.report ≡ Some r → Shows file bytes i r }
 
     // When refusals come wherever nothing is told. Want of memory, with status 70, may come at any time.
@@ -278,5 +340,7 @@ pub fn effects_main<R: Threads + Wait, F: Files, O: Sink, E: Sink, G: Gate>(
         Some(Command::Assemble { file, settings }) => {
             list_program(alloc, files, out, err, file, &settings)
         }
+        Some(Command::Make { number }) => write_made(alloc, out, err, number),
+        Some(Command::Demo { number }) => run_made(alloc, out, err, number),
     }
 }

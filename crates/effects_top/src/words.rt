@@ -1,9 +1,10 @@
 //! The command words.
 
-ghost use Rattle.std.specs.Prelude.{◌≡◌, false, IfSome, MatchOption, IsTrue, unwrap_or, map, option_map};
+ghost use Rattle.std.specs.Prelude.{◌≡◌, ◌≤◌, false, IfSome, MatchOption, IsTrue, unwrap_or, map, option_map};
 ghost use Rattle.std.specs.String.{string_bytes};
-ghost use Rattle.effects_top.specs.Words.{can_be_file, choice_of, least, most, is_of, number_of, seen_said, AreInRange, choose, with_option, with_file, is_joined, IsJoinedOf, said_by, numbers_of, numbers_said, seen_command, asked_check, asked_listing, asked_run, asked};
+ghost use Rattle.effects_top.specs.Words.{can_be_file, choice_of, least, most, is_of, number_within, number_of, number_alone, seen_said, AreInRange, choose, with_option, with_file, is_joined, IsJoinedOf, said_by, numbers_of, numbers_said, seen_command, asked_check, asked_listing, asked_run, asked};
 
+use crate::made::MadeNumber;
 use crate::token::decimal;
 use fx_base::{Settings, Turns};
 
@@ -35,6 +36,14 @@ pub enum Command<'a> {
         file: &'a str,
         settings: Settings,
         turns: Turns,
+    },
+    /// The text of the made program of a number.
+    Make {
+        number: MadeNumber,
+    },
+    /// A run of the made program of a number.
+    Demo {
+        number: MadeNumber,
     },
 }
 
@@ -107,20 +116,24 @@ fn most(choice: Choice) -> u64
     }
 }
 
-// The number that 1 to 10 decimal digits are, where it is one of the choice.
-fn number_of(choice: Choice, text: &str) -> Option<u64>
-    ensures value { result ≡ number_of choice text.now }
-    ensures range { IfSome result (λ n. IsTrue (is_of choice n)) }
+// The number that 1 to 10 decimal digits are, where it is in this range.
+fn number_within(low: u64, high: u64, text: &str) -> Option<u64>
+    ensures value { result ≡ number_within low high text.now }
+    ensures range { IfSome result (λ n. (low ≤ n) × (n ≤ high)) }
 {
     if text.is_empty() || text.len() > 10 {
         return None;
     }
-    let number = decimal(text.as_bytes(), most(choice))?;
-    if least(choice) <= number {
-        Some(number)
-    } else {
-        None
-    }
+    let number = decimal(text.as_bytes(), high)?;
+    if low <= number { Some(number) } else { None }
+}
+
+// The number, where it is one of the choice.
+fn number_of(choice: Choice, text: &str) -> Option<u64>
+    ensures value { result ≡ number_of choice text.now }
+    ensures range { IfSome result (λ n. IsTrue (is_of choice n)) }
+{
+    number_within(least(choice), most(choice), text)
 }
 
 // What was said, with the number for this field; none where one was said before.
@@ -261,11 +274,27 @@ fn run<'a>(said: &Said<'a>) -> Option<Command<'a>>
     })
 }
 
+// `make` and `demo` take the number of a made program and no options.
+fn made_number(arguments: &[String]) -> Option<MadeNumber>
+    ensures { option_map (λ n. n.count) result ≡ number_alone (map string_bytes arguments.now) }
+{
+    match arguments {
+        [text] => {
+            let count = number_within(1, 500, text.as_str())?;
+            Some(MadeNumber {
+                count: count as u32,
+            })
+        }
+        _ => None,
+    }
+}
+
 /// What the command words ask for; `None` where they have no reading.
 ///
 /// ```text
 /// words  = "check" FILE
 ///        | "asm" FILE option*  |  "run" FILE option*      an option may stand before FILE too
+///        | "make" NUMBER  |  "demo" NUMBER                from 1 to 500
 /// option = ("--heap" | "--stack" | "--out" | "--budget" | "--domains" | "--turns") NUMBER
 /// ```
 ///
@@ -279,6 +308,12 @@ pub fn command_of(words: &[String]) -> Option<Command<'_>>
         "check" => check(arguments),
         "asm" => assemble(&said_by(arguments, &NOTHING)?),
         "run" => run(&said_by(arguments, &NOTHING)?),
+        "make" => Some(Command::Make {
+            number: made_number(arguments)?,
+        }),
+        "demo" => Some(Command::Demo {
+            number: made_number(arguments)?,
+        }),
         _ => None,
     }
 }

@@ -4,13 +4,12 @@
 //! end of the run, the instructions that the hart has retired, and what the loop has made; with the second
 //! argument `listing` the image's listing, and runs nothing.
 //!
-//! Promised: the image meets the runner's condition in every order of its harts' instructions.
+//! Promised: the image keeps the machine's promise in every order of its harts' instructions.
 //!
 //! Stands on: `fx_base`, `rv_model`, `rv_asm`, `serial_runner`, and `anyhow` of the kit.
 #![tactic(auto)]
 
 ghost use Rattle.std.specs.Prelude.{◌≤◌, IfOk};
-ghost use Rattle.rv_model.specs.Run.{Runs};
 
 mod program;
 #[cfg(test)]
@@ -36,9 +35,7 @@ fn count_from(word: Option<String>) -> anyhow::Result<u64>
     Ok(count.max(1))
 }
 
-fn print_run(rt: &HostRuntime, image: &Image) -> anyhow::Result<()>
-    requires { Runs image.now }
-{
+fn print_run(rt: &HostRuntime, image: &Image) -> anyhow::Result<()> {
     let report = run_serial(rt.alloc(), image, Turns::usual())?;
     println!(rt; "end {:?}", report.end)?;
     for hart in report.harts.as_slice() {

@@ -2,7 +2,7 @@
 
 use super::*;
 use fx_base::Refusal;
-use rv_model::Report;
+use rv_model::{Code, Image, Instr, Items, Op, Report, RunEnd};
 use std::alloc::Global;
 use std::test::Fail;
 
@@ -125,6 +125,60 @@ fn runs_end_as_they_should(rt: HostRuntime) -> Result<(), Fail> {
         assert_eq!(rt; last, Some(case.retired.1));
         assert_eq!(rt; report.words.as_slice().get(16).copied(), Some(case.word));
         assert_eq!(rt; report.printed.as_slice().len(), 0);
+    }
+    Ok(())
+}
+
+// Puts 7 into x5.
+const SEVEN: Instr = Instr {
+    op: Op::Addi,
+    rd: 5,
+    rs1: 0,
+    rs2: 0,
+    imm: 7,
+    aq: false,
+    rl: false,
+};
+
+// Stores x5 into the end word.
+const END: Instr = Instr {
+    op: Op::Sd,
+    rd: 0,
+    rs1: 0,
+    rs2: 5,
+    imm: 8,
+    aq: false,
+    rl: false,
+};
+
+// A run of so many of these instructions, over so many words.
+fn run_code(alloc: Global, count: usize, size: u64) -> Result<Report, Refusal> {
+    let mut code = Code::empty(alloc);
+    if count > 0 {
+        code.push(SEVEN)?;
+    }
+    if count > 1 {
+        code.push(END)?;
+    }
+    let image = Image {
+        settings: settings(100, 2),
+        code,
+        start: Items::from_vec(Vec::new(alloc)),
+        size,
+    };
+    run_serial(alloc, &image, Turns::usual())
+}
+
+// No room for the log, no instruction at the start or behind the first, and an end word of 7.
+#[test]
+fn broken_promises_end_runs(rt: HostRuntime) -> Result<(), Fail> {
+    for (count, size, retired) in [(2, 271u64, 0), (0, 272, 0), (1, 272, 1), (2, 272, 2)] {
+        let report = run_code(rt.alloc(), count, size)?;
+        assert!(rt; matches!(report.end, RunEnd::Broken), "{count} {size}");
+        assert_eq!(rt; report.printed.as_slice().len(), 0);
+        assert_eq!(rt; report.words.as_slice().len() as u64, size);
+        let counts = report.harts.as_slice().first().map(|hart| hart.retired);
+        assert_eq!(rt; counts, Some(retired));
     }
     Ok(())
 }

@@ -11,3 +11,4 @@ pub mod TestLines
 pub mod Putting
 pub mod Leading
 pub mod Running
+pub mod Allowing

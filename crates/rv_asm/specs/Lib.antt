@@ -5,3 +5,4 @@ pub mod Layout
 pub mod Lines
 pub mod Listing
 pub mod Text
+pub mod Standing

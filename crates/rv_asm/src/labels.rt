@@ -10,8 +10,8 @@ use rv_model::Line;
 use std::alloc::{AllocError, Global};
 use std::collections::BTreeMap;
 
-// The number of the line that defines a label.
-fn label_lines(alloc: Global, lines: &[Line]) -> Result<BTreeMap<u32, usize>, AllocError>
+/// The number of the line that defines a label.
+pub fn label_lines(alloc: Global, lines: &[Line]) -> Result<BTreeMap<u32, usize>, AllocError>
     ensures { IfOk result (λ m. (l : ℕ) → unwrap_or (get nat_cmp m l) (length lines.now) ≡ line_of lines.now l) }
 {
     let mut numbers = BTreeMap::new(alloc);

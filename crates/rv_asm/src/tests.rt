@@ -290,3 +290,23 @@ fn all_operations(rt: HostRuntime) -> Result<(), Fail> {
     assert_eq!(rt; listing(rt.alloc(), &image)?.as_slice(), LISTING);
     Ok(())
 }
+
+#[test]
+fn which_are_lines(rt: HostRuntime) -> Result<(), Fail> {
+    let alloc = rt.alloc();
+    let last = Line::Const { rd: 31, value: 5 };
+    let to_second = Line::Branch {
+        op: Op::Bne,
+        rs1: 1,
+        rs2: 2,
+        to: 2,
+    };
+    let good = [Line::Label(2), to_second, Line::Jump { rd: 0, to: 2 }, last];
+    assert!(rt; are_lines(alloc, &good)?);
+    assert!(rt; are_lines(alloc, &[last])?);
+    assert!(rt; !are_lines(alloc, &[to_second, last])?);
+    assert!(rt; !are_lines(alloc, &[last, Line::Label(2)])?);
+    assert!(rt; !are_lines(alloc, &[Line::Label(2), Line::Label(2), last])?);
+    assert!(rt; !are_lines(alloc, &[Line::Const { rd: 32, value: 5 }])?);
+    Ok(())
+}

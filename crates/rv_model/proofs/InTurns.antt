@@ -109,6 +109,10 @@ first_reaches image = ([], each 0 image.settings.domains, refl)
     each i zero = All-nil (λ (x : Hart). x.retired ≤ image.settings.budget)
     each i (suc n) = All-cons (λ (x : Hart). x.retired ≤ image.settings.budget) _ _ (omega arith) (each (suc i) n)
 
+-- a turn leads on from what can be reached
+pub turn_reaches : (image : Image) (n i : ℕ) (s : Machine) → Reaches image s → Reaches image (turn image n i s)
+turn_reaches image n i s = grows_reaches image s _ (turn_grows image n i s)
+
 -- any number of rounds
 pub rounds_reach : (image : Image) (turns n : ℕ) → Reaches image (rounds image turns n (first image))
 rounds_reach image turns n = grows_reaches image (first image) _ (rounds_grow image turns n (first image)) (first_reaches image)

@@ -22,6 +22,10 @@ pub enum RunEnd {
     BudgetSpent { hart: u32, count: u64 },
     /// Each hart waits or has stopped.
     Deadlock,
+    /// The image broke the machine's promise: a hart is at fault, or the end word, its details or the
+    /// log's cursor are out of their ranges. Must never be seen; goes once every image is known to keep
+    /// the promise.
+    Broken,
 }
 
 /// The end of a run, what it printed, and the harts and words that it left.

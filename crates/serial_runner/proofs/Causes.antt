@@ -11,14 +11,13 @@ use Rattle.rv_model.specs.declared.report.RunEnd.{RunEnd}
 use Rattle.rv_model.specs.declared.report.RunEnd.TheVariants as ends
 use Rattle.rv_model.specs.Machine.{Words, Hart as SeenHart, hart_of, words_of}
 use Rattle.rv_model.specs.Layout.{end, end_of}
-use Rattle.rv_model.specs.Run.{Runs, move_of, machine_of}
+use Rattle.rv_model.specs.Run.{move_of, machine_of}
 use Rattle.rv_model.specs.Serial.{goes, is_over, IsAtRest, Serial}
 use Rattle.rv_model.proofs.Ends.{end-over, end-running}
 use Rattle.rv_model.proofs.Lists.{map_get}
 use Rattle.serial_runner.specs.Turns.{is_spent}
 use Rattle.serial_runner.specs.Ending.{unfinished, end_or, ending, IsBudgetSpent, IsDeadlocked}
 use Rattle.serial_runner.proofs.Counts.{any_seen}
-use Rattle.serial_runner.proofs.Opening.{serial_sound}
 
 some_is : {A : Type 0} (x y : A) → Some x ≡ Some y → x ≡ y
 some_is x y e = cc
@@ -27,6 +26,7 @@ some_is x y e = cc
 abbrev is_told : RunEnd → Bool
 is_told (ends.BudgetSpent hart count) = false
 is_told ends.Deadlock = false
+is_told ends.Broken = false
 is_told (ends.Exited status) = true
 is_told (ends.Uncaught text) = true
 is_told (ends.HeapFull used asked size) = true
@@ -67,8 +67,27 @@ running budget w hs le f = by (end w) refl
 untold : (budget : ℕ) (w : Words) (hs : List Hart) → w END_WORD ≡ 0 → ending budget w hs ≡ unfinished budget 0 hs
 untold budget w hs e = ap (end_or (unfinished budget 0 hs)) (end-running w e)
 
+-- no words that tell a sound end, and no harts, tell a broken promise
+pub ending_kept : (budget : ℕ) (w : Words) (hs : List Hart) → w END_WORD ≤ 6 → ending budget w hs ≢ ends.Broken
+ending_kept budget w hs le e = by (end w) refl e
+  where
+    apart : IsTrue false → ⊥
+    apart t = cc
+
+    unfinished_kept : (i : ℕ) (l : List Hart) → unfinished budget i l ≡ ends.Broken → ⊥
+    unfinished_kept i [] f = cc
+    unfinished_kept i (h ∷ l) f = by_spent (is_spent budget h) f (unfinished_kept (suc i) l)
+      where
+        by_spent : (b : Bool) → (if b then ends.BudgetSpent i budget else unfinished budget (suc i) l) ≡ ends.Broken → (unfinished budget (suc i) l ≡ ends.Broken → ⊥) → ⊥
+        by_spent true f rest = cc
+        by_spent false f rest = rest f
+
+    by : (o : Option RunEnd) → end w ≡ o → end_or (unfinished budget 0 hs) o ≡ ends.Broken → ⊥
+    by None at f = unfinished_kept 0 hs f
+    by (Some told) at f = apart (subst (λ x. IsTrue (is_told x)) f (told_of (w END_WORD) w told le at))
+
 -- no hart has spent the budget
-abbrev AreUnspent : ℕ → List Hart → Type 0
+abbrev pub AreUnspent : ℕ → List Hart → Type 0
 AreUnspent budget hs = (k : ℕ) (x : Hart) → slice_get hs k ≡ Some x → x.retired ≢ budget
 
 -- the first hart that has spent the budget, counted from i
@@ -84,6 +103,7 @@ record IsFirstSpent (budget i : ℕ) (hs : List Hart) (hart count : ℕ) : Type 
 hart_of_end : RunEnd → ℕ
 hart_of_end (ends.BudgetSpent hart count) = hart
 hart_of_end ends.Deadlock = 0
+hart_of_end ends.Broken = 0
 hart_of_end (ends.Exited status) = 0
 hart_of_end (ends.Uncaught text) = 0
 hart_of_end (ends.HeapFull used asked size) = 0
@@ -94,6 +114,7 @@ hart_of_end (ends.OutputFull used asked size) = 0
 count_of_end : RunEnd → ℕ
 count_of_end (ends.BudgetSpent hart count) = count
 count_of_end ends.Deadlock = 0
+count_of_end ends.Broken = 0
 count_of_end (ends.Exited status) = 0
 count_of_end (ends.Uncaught text) = 0
 count_of_end (ends.HeapFull used asked size) = 0
@@ -159,25 +180,23 @@ none_any : (budget : ℕ) (hs : List Hart) → AreUnspent budget hs → list_any
 none_any budget [] none = refl
 none_any budget (h ∷ hs) none = ap (λ b. b || list_any (is_spent budget) hs) (ne_eqb h.retired budget (none 0 h refl)) ∙ none_any budget hs (λ k. none (suc k))
 
+-- with the end word 0 and no spent budget a run isn't over
+pub going_on : (image : Image) (words : List ℕ) (harts : List Hart) → words_of words END_WORD ≡ 0 → AreUnspent image.settings.budget harts → is_over image (machine_of harts words) ≡ false
+going_on image words harts run unspent =
+    ap (λ n. not (n == 0) || list_any (λ (x : SeenHart). x.retired == image.settings.budget) (map hart_of harts)) run
+    ∙ sym (any_seen image.settings.budget harts)
+    ∙ none_any image.settings.budget harts unspent
+
 -- a run that rests with no end and no spent budget rests since no hart has a step
 none_goes : (image : Image) (words : List ℕ) (harts : List Hart) → words_of words END_WORD ≡ 0 → AreUnspent image.settings.budget harts → IsAtRest image (machine_of harts words) → (i : ℕ) (h : Hart) → slice_get harts i ≡ Some h → IsFalse (goes (move_of image (words_of words) (hart_of h)))
 none_goes image words harts run unspent (inr none) i h at = none i (hart_of h) (map_get hart_of harts i h at)
-none_goes image words harts run unspent (inl over) i h at = absurd (apart (is_over image (machine_of harts words)) over still)
+none_goes image words harts run unspent (inl over) i h at = absurd (apart (is_over image (machine_of harts words)) over (going_on image words harts run unspent))
   where
     apart : (b : Bool) → IsTrue b → b ≡ false → ⊥
     apart true t g = cc
     apart false t g = cc
 
-    still : is_over image (machine_of harts words) ≡ false
-    still =
-        ap (λ n. not (n == 0) || list_any (λ (x : SeenHart). x.retired == image.settings.budget) (map hart_of harts)) run
-        ∙ sym (any_seen image.settings.budget harts)
-        ∙ none_any image.settings.budget harts unspent
-
-module _ (image : Image) (turns : ℕ) (words : List ℕ) (harts : List Hart) (runs : Runs image) (serial : Serial image turns words harts) where
-  kind : words_of words END_WORD ≤ 6
-  kind = (serial_sound image turns words harts runs serial).kind
-
+module _ (image : Image) (turns : ℕ) (words : List ℕ) (harts : List Hart) (kind : words_of words END_WORD ≤ 6) (serial : Serial image turns words harts) where
   pub budget_spent : (e : RunEnd) → e ≡ ending image.settings.budget (words_of words) harts → (hart count : ℕ) → e ≡ ends.BudgetSpent hart count ↔ ((count ≡ image.settings.budget) × IsBudgetSpent image words harts hart)
   budget_spent e is hart count = (forward, backward)
     where

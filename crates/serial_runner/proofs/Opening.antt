@@ -3,12 +3,9 @@ use Rattle.std.proofs.Common.{◌≡◌, ℕ, zero, suc, ◌≤◌, List, [], �
 use Rattle.rv_model.specs.declared.image.Image.{Image}
 use Rattle.rv_model.specs.declared.hart.Hart.{Hart}
 use Rattle.rv_model.specs.Machine.{hart_of, words_of}
-use Rattle.rv_model.specs.Layout.{IsSound}
 use Rattle.rv_model.specs.Start.{first_hart, first_harts, start_words}
-use Rattle.rv_model.specs.Run.{Runs, machine_of, first}
-use Rattle.rv_model.specs.Serial.{Serial}
-use Rattle.rv_model.proofs.InTurns.{serial_reaches}
-use Rattle.rv_model.proofs.Reaching.{reaches_sound}
+use Rattle.rv_model.specs.Run.{machine_of, first, Reaches}
+use Rattle.rv_model.proofs.InTurns.{first_reaches}
 use Rattle.serial_runner.specs.Turns.{IsReady, AreWithin}
 
 first_count : (i n : ℕ) → length (first_harts i n) ≡ n
@@ -34,12 +31,12 @@ ready_first image harts words is size = record {
 pub start_first : (image : Image) (harts : List Hart) (words : List ℕ) → harts ≡ first_harts 0 image.settings.domains → words_of words ≡ start_words image.start → machine_of harts words ≡ first image
 start_first image harts words is same = λ j. record { words = same j; harts = ap (λ (l : List Hart). map hart_of l) is j }
 
--- words at which the rounds come to rest are sound
-pub serial_sound : (image : Image) (turns : ℕ) (words : List ℕ) (harts : List Hart) → Runs image → Serial image turns words harts → IsSound image.settings.out (words_of words)
-serial_sound image turns words harts runs s = reaches_sound image (machine_of harts words) runs (serial_reaches image turns words harts s).1
+pub reach_first : (image : Image) (harts : List Hart) (words : List ℕ) → machine_of harts words ≡ first image → Reaches image (machine_of harts words)
+reach_first image harts words is = subst (Reaches image) (sym is) (first_reaches image)
 
-pub serial_at : (image : Image) (turns : ℕ) (words words' : List ℕ) (harts harts' : List Hart) → Serial image turns words harts → words' ≡ words → harts' ≡ harts → Serial image turns words' harts'
-serial_at image turns words words' harts harts' s e f = subst (λ (p : List ℕ × List Hart). Serial image turns p.0 p.1) (λ j. (sym e j, sym f j)) s
+-- what holds of words and harts holds of the same under other names
+pub same_at : (P : List ℕ → List Hart → Type 0) (words words' : List ℕ) (harts harts' : List Hart) → P words harts → words' ≡ words → harts' ≡ harts → P words' harts'
+same_at P words words' harts harts' holds e f = subst (λ (p : List ℕ × List Hart). P p.0 p.1) (λ j. (sym e j, sym f j)) holds
 
 -- the front of a list
 pub front : (a b : List Hart) (n : ℕ) → length a ≡ n → take n (a ++ b) ≡ a

@@ -1,5 +1,5 @@
 -- Turns and rounds, instruction by instruction.
-use Rattle.std.proofs.Common.{◌≡◌, ◌≢◌, ℕ, zero, suc, ◌+◌, ◌<◌, ◌≤◌, List, [], ◌∷◌, Option, Some, None, Bool, true, false, length, map, inl, inr, ◌⊎◌, refl, sym, ap, ◌∙◌, subst, arith}
+use Rattle.std.proofs.Common.{◌≡◌, ℕ, zero, suc, ◌+◌, ◌<◌, ◌≤◌, List, [], ◌∷◌, Option, Some, None, Bool, true, false, length, map, inl, inr, ◌⊎◌, refl, sym, ap, ◌∙◌, subst, arith}
 use Rattle.std.specs.Prelude.{slice_get, IsTrue, IsFalse, if◌then◌else◌}
 use Rattle.std.proofs.lemmas.Bool.{cases_lt}
 use Rattle.std.proofs.lemmas.Option.{slice_get_within}
@@ -8,10 +8,7 @@ use Rattle.rv_model.specs.declared.hart.Hart.{Hart as HartState}
 use Rattle.rv_model.specs.Machine.{hart_of, Hart, Plan, Move, Goes, Waits, Stopped, Fault, plan}
 use Rattle.rv_model.specs.Run.{Machine, hart_step, turned, turn_of, move_of}
 use Rattle.rv_model.specs.Serial.{is_over, goes, turn, turns_from, rounds, IsAtRest}
-use Rattle.serial_runner.specs.declared.turns.Course.{Course}
-use Rattle.serial_runner.specs.declared.turns.Course.TheVariants as course
-use Rattle.serial_runner.specs.Courses.{is_going}
-use Rattle.serial_runner.specs.Turns.{IsStep, IsStill, HasNoStep}
+use Rattle.serial_runner.specs.Turns.{IsStep, IsStill, HasNoStep, HasFault}
 
 -- a hart that has no step changes nothing
 no_step : (image : Image) (i : ℕ) (s : Machine) → HasNoStep image i s → hart_step image i s ≡ s
@@ -93,12 +90,10 @@ still_below image k s s' still below i more = subst (HasNoStep image i) (sym sti
     by (inl lt) = below i lt
     by (inr ge) = subst (λ j. HasNoStep image j s) (let same : k ≡ i = omega (arith, ge, more) in same) still.none
 
-pub going : (c : Course) → IsTrue (is_going c) → c ≡ course.Went
-going course.Went e = refl
-going course.Still e = absurd (cc)
-going course.Over e = absurd (cc)
-
-pub not_going : (c : Course) → IsFalse (is_going c) → c ≢ course.Went
-not_going course.Went e is = cc
-not_going course.Still e is = cc
-not_going course.Over e is = cc
+-- and one more that is at no fault
+pub kept_below : (image : Image) (k : ℕ) (s s' : Machine) → s' ≡ s → (HasFault image k s' → ⊥) → ((i : ℕ) → i < k → HasFault image i s → ⊥) → (i : ℕ) → i < k + 1 → HasFault image i s' → ⊥
+kept_below image k s s' same none below i more = by (cases_lt i k)
+  where
+    by : (i < k) ⊎ (k ≤ i) → HasFault image i s' → ⊥
+    by (inl lt) f = below i lt (subst (HasFault image i) same f)
+    by (inr ge) f = none (subst (λ j. HasFault image j s') (let e : i ≡ k = omega (arith, ge, more) in e) f)

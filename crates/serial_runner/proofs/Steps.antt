@@ -1,12 +1,12 @@
 -- One instruction of a hart over words in a vector.
-use Rattle.std.proofs.Common.{◌≡◌, ◌≢◌, ℕ, ◌+◌, ◌≤◌, List, Option, Some, None, length, map, length-set, refl, sym, ap, ◌∙◌, subst, arith}
+use Rattle.std.proofs.Common.{◌≡◌, ◌≢◌, ◌↔◌, ℕ, ◌+◌, ◌≤◌, List, Option, Some, None, length, map, length-set, refl, sym, ap, ◌∙◌, subst, arith}
 use Rattle.std.specs.Prelude.{slice_get, slice_set, IsTrue, IsFalse}
 use Rattle.rv_model.specs.declared.image.Image.{Image}
 use Rattle.rv_model.specs.declared.instr.Instr.{Instr}
 use Rattle.rv_model.specs.declared.hart.Hart.{Hart as HartState}
 use Rattle.rv_model.specs.declared.hart.Access.TheVariants.{Loading, Storing, Swapping, Adding, Masking, Exchanging}
 use Rattle.rv_model.specs.Table.{AreWellFormed}
-use Rattle.rv_model.specs.Machine.{Words, Hart, Plan, Moves, Accesses, Awaits, Stops, Faults, Move, Goes, plan, answered, word_at, words_after, hart_of, words_of, step}
+use Rattle.rv_model.specs.Machine.{Words, Hart, Plan, Moves, Accesses, Awaits, Stops, Faults, Move, Goes, Fault, plan, answered, word_at, words_after, hart_of, words_of, step}
 use Rattle.rv_model.specs.Run.{machine_of, hart_step, turned, turn_of, move_of}
 use Rattle.rv_model.specs.Serial.{is_over, goes}
 use Rattle.rv_model.proofs.Lists.{map_get, map_set, set_same}
@@ -18,7 +18,7 @@ use Rattle.rv_step.specs.declared.instruction.Turn.{Turn}
 use Rattle.rv_step.specs.declared.instruction.Turn.TheVariants as turn
 use Rattle.rv_step.specs.Seen.{seen_turn}
 use Rattle.rv_step.specs.Told.{told_then, IsFound}
-use Rattle.serial_runner.specs.Turns.{IsReady, IsStep, IsStill, is_went, total, retired_at}
+use Rattle.serial_runner.specs.Turns.{IsReady, IsStep, IsStill, HasFault, is_went, total, retired_at}
 
 -- the word that was found is the one that the definition reads
 pub found_step : (h : Hart) (p : Plan) (w : Words) (n : ℕ) → IsForRegisters p → IsFound n p (Some w) → answered h p n ≡ answered h p (word_at p w)
@@ -99,6 +99,28 @@ differ turn.Went f e = cc
 differ turn.Waits f e = cc
 differ turn.Stopped f e = cc
 differ turn.Fault f e = cc
+
+-- a turn says that the hart is at fault exactly where it is
+pub at_fault : (image : Image) (hs : List HartState) (i : ℕ) (h h' : HartState) (ws ws' : List ℕ) (t : Turn) → slice_get hs i ≡ Some h → Told image.size image.code h h' ws ws' t → t ≡ turn.Fault ↔ HasFault image i (machine_of hs ws)
+at_fault image hs i h h' ws ws' t at it = (forward, backward)
+  where
+    moved : seen_turn t (hart_of h') ≡ move_of image (words_of ws) (hart_of h)
+    moved = moved_as image.size image.code h h' ws ws' t it
+
+    forward : t ≡ turn.Fault → HasFault image i (machine_of hs ws)
+    forward e = (hart_of h, map_get hart_of hs i h at, sym moved ∙ ap (λ x. seen_turn x (hart_of h')) e)
+
+    fault_is : (x : Turn) (y : Hart) → seen_turn x y ≡ Fault → x ≡ turn.Fault
+    fault_is turn.Went y e = absurd (cc)
+    fault_is turn.Waits y e = absurd (cc)
+    fault_is turn.Stopped y e = absurd (cc)
+    fault_is turn.Fault y e = refl
+
+    some_is : (x y : Hart) → Some x ≡ Some y → x ≡ y
+    some_is x y e = cc
+
+    backward : HasFault image i (machine_of hs ws) → t ≡ turn.Fault
+    backward f = fault_is t (hart_of h') (moved ∙ subst (λ (y : Hart). move_of image (words_of ws) y ≡ Fault) (some_is f.0 (hart_of h) (sym f.1 ∙ map_get hart_of hs i h at)) f.2)
 
 -- the hart's count after a turn
 count_after : (size : ℕ) (code : List Instr) (h h' : HartState) (ws ws' : List ℕ) (t : Turn) → Told size code h h' ws ws' t → h'.retired ≡ h.retired + bit (is_went t)

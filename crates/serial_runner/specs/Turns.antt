@@ -3,7 +3,7 @@ use Rattle.std.specs.Prelude.{◌≡◌, ℕ, zero, suc, ◌+◌, ◌≤◌, Lis
 use Rattle.rv_model.specs.declared.image.Image.{Image}
 use Rattle.rv_model.specs.declared.hart.Hart.{Hart as HartState}
 use Rattle.rv_model.specs.declared.layout.TheConstants.{END_WORD}
-use Rattle.rv_model.specs.Machine.{Hart, words_of}
+use Rattle.rv_model.specs.Machine.{Hart, words_of, Fault as MoveFault}
 use Rattle.rv_model.specs.Run.{Machine, hart_step, move_of}
 use Rattle.rv_model.specs.Serial.{is_over, goes}
 use Rattle.rv_step.specs.declared.instruction.Turn.{Turn}
@@ -50,6 +50,10 @@ pub record IsStep (image : Image) (i : ℕ) (s s' : Machine) : Type 0 where
 -- hart i has no step
 abbrev pub HasNoStep : Image → ℕ → Machine → Type 0
 HasNoStep image i s = (h : Hart) → slice_get s.harts i ≡ Some h → IsFalse (goes (move_of image s.words h))
+
+-- hart i is at fault: its next instruction can't be carried out
+abbrev pub HasFault : Image → ℕ → Machine → Type 0
+HasFault image i s = (h : Hart) × (slice_get s.harts i ≡ Some h) × (move_of image s.words h ≡ MoveFault)
 
 -- nothing has changed in a run that isn't over, since hart i has no step
 pub record IsStill (image : Image) (i : ℕ) (s s' : Machine) : Type 0 where

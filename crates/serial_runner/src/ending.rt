@@ -1,15 +1,38 @@
 //! The end of a run, and its printed bytes.
 
-ghost use Rattle.std.specs.Prelude.{◌≡◌, ◌<◌, ◌≤◌, ◌+◌, ◌*◌, ◌/◌, length, vec_len, take};
+ghost use Rattle.std.specs.Prelude.{◌≡◌, ◌<◌, ◌≤◌, ◌+◌, ◌*◌, ◌/◌, ◌↔◌, IsTrue, length, vec_len, take};
 ghost use Rattle.rv_model.specs.Machine.{words_of};
 ghost use Rattle.rv_model.specs.Layout as layout;
-ghost use Rattle.serial_runner.specs.Ending.{unfinished, ending};
+ghost use Rattle.serial_runner.specs.Ending.{unfinished, ending, HasRoom};
 ghost use Rattle.rv_model.specs.declared.layout.TheConstants.{LOG_WORD as LOG_START};
 
 use rv_model::{
     CURSOR_WORD, DETAIL_WORD, END_WORD, Hart, Image, Items, LOG_WORD, Part, RunEnd, TEXT_WORD,
 };
 use rv_step::part_of;
+
+/// Whether the words of an image have room for those of fixed meaning and the log.
+pub fn has_room(image: &Image) -> bool
+    ensures { IsTrue result ↔ HasRoom image.now }
+{
+    LOG_WORD + image.settings.out.div_ceil(8) <= image.size
+}
+
+/// Whether the end word, its first detail and the log's cursor are in their ranges.
+pub fn is_sound(image: &Image, words: &[u64]) -> bool
+    requires { LOG_START ≤ length words.now }
+    ensures { IsTrue result ↔ layout.IsSound image.now.settings.out (words_of words.now) }
+{
+    let kind = words[END_WORD as usize];
+    let most = match kind {
+        1 | 5 => 255,
+        2 => 1024,
+        _ => u64::MAX,
+    };
+    kind <= 6
+        && words[DETAIL_WORD as usize] <= most
+        && words[CURSOR_WORD as usize] <= image.settings.out
+}
 
 // The byte at an address.
 fn byte_at(words: &[u64], at: u64) -> u8

@@ -20,3 +20,6 @@ returns-in-BudgetSpent g c = rw c.in-BudgetSpent.is c.tell_two-in-BudgetSpent.en
 
 pub returns-in-Deadlock : goal.returns-in-Deadlock
 returns-in-Deadlock g c = rw c.in-Deadlock.is c.write_all.ensures
+
+pub returns-in-Broken : goal.returns-in-Broken
+returns-in-Broken g c = rw c.in-Broken.is c.write_all-in-Broken.ensures

@@ -1,11 +1,11 @@
-use Rattle.std.proofs.Common.{◌≡◌, [], rules, ◌∙◌}
+use Rattle.std.proofs.Common.{◌≡◌, IfNone, rules, subst, ◌∙◌}
 use Rattle.effects_top.specs.Expression.{Expression, postfix_of}
 use Rattle.effects_top.specs.Form.{IsFormOf}
 use Rattle.effects_top.proofs.Integral.{form_integral}
 use Rattle.effects_top.proofs.program.image_of_text.Goals as goal
 
 pub returns-clause-stands : goal.returns-clause-stands
-returns-clause-stands c = λ file.
+returns-clause-stands c = λ file form.
     let read : (e : Expression) × IsFormOf c.args.text.now e × (c.in-Some.postfix.items ≡ postfix_of e) = search (rules, c.in_ok-postfix.ensures.some, c.in-Some.is) in
     record {
       expression = read.0;
@@ -13,7 +13,7 @@ returns-clause-stands c = λ file.
       stands = λ at. c.in_ok-compile.ensures.stands file at read.0 (form_integral c.args.text.now read.0 read.1) (c.deref.ensures.value ∙ read.2);
     }
 
-pub returns-clause-runs : goal.returns-clause-runs
-returns-clause-runs c =
-    let image = returns-clause-stands c [] in
-    (image.stands (record { line = 1; column = 1 })).runs
+pub returns-in_default-clause-stands : goal.returns-in_default-clause-stands
+returns-in_default-clause-stands c = λ file form.
+    let none = subst (λ o. IfNone o ((e : Expression) → IsFormOf c.args.text.now e → ⊥)) c.in_default.is c.in_ok-postfix.ensures.none in
+    absurd (none form.expression form.form)

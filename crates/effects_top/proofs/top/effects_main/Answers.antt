@@ -1,4 +1,4 @@
-use Rattle.std.proofs.Common.{◌∙◌, Some, ap, sym}
+use Rattle.std.proofs.Common.{◌∙◌, Some, ap, sym, refl}
 use Rattle.effects_top.specs.Words.{seen_command}
 use Rattle.effects_top.proofs.Wording.{asked_file, run_turns_are}
 use Rattle.effects_top.proofs.top.effects_main.Goals as goal
@@ -12,16 +12,16 @@ pub returns-in-Some-Assemble-clause-listed : goal.returns-in-Some-Assemble-claus
 returns-in-Some-Assemble-clause-listed g c = λ file numbers w asks written. c.list_program.ensures.listed w written
 
 pub returns-in-Some-Check-clause-read : goal.returns-in-Some-Check-clause-read
-returns-in-Some-Check-clause-read g c = λ a bytes w asks told written.
+returns-in-Some-Check-clause-read g c = λ file bytes w told written.
     let is = ap (λ command. Some (seen_command command)) (sym c.in-Some-Check.field-0-is) ∙ c.in-Some-Check.ensures in
-    c.check_program.ensures.read bytes w (ap (g.F.Files.told c.args.files.now) (asked_file _ _ a is asks) ∙ told) written
+    c.check_program.ensures.read bytes w (ap (g.F.Files.told c.args.files.now) (asked_file _ _ _ file is refl told.named) ∙ told.holds) written
 
 pub returns-in-Some-Run-clause-read : goal.returns-in-Some-Run-clause-read
-returns-in-Some-Run-clause-read g c = λ a bytes w asks told written.
+returns-in-Some-Run-clause-read g c = λ file bytes w told written.
     let is = ap (λ command. Some (seen_command command)) (sym c.in-Some-Run.field-0-is) ∙ c.in-Some-Run.ensures in
-    c.run_program.ensures.read bytes w (ap (g.F.Files.told c.args.files.now) (asked_file _ _ a is asks) ∙ told) written
+    c.run_program.ensures.read bytes w (ap (g.F.Files.told c.args.files.now) (asked_file _ _ _ file is refl told.named) ∙ told.holds) written
 
 pub returns-in-Some-Assemble-clause-read : goal.returns-in-Some-Assemble-clause-read
-returns-in-Some-Assemble-clause-read g c = λ a bytes w asks told written.
+returns-in-Some-Assemble-clause-read g c = λ file bytes w told written.
     let is = ap (λ command. Some (seen_command command)) (sym c.in-Some-Assemble.field-0-is) ∙ c.in-Some-Assemble.ensures in
-    c.list_program.ensures.read bytes w (ap (g.F.Files.told c.args.files.now) (asked_file _ _ a is asks) ∙ told) written
+    c.list_program.ensures.read bytes w (ap (g.F.Files.told c.args.files.now) (asked_file _ _ _ file is refl told.named) ∙ told.holds) written

@@ -11,8 +11,8 @@ returns-in-Err-clause-compiles g c =
     file_refused _ c.in-Err.refusal _ _ _ _ _ _ _ _ _ _ _ c.refused.ensures c.in-Err.ensures.others c.in-Err.ensures.opened c.in-Err.ensures.file c.in-Err.ensures.limit
 
 pub returns-in-Ok-run_image-clause-shows : goal.returns-in-Ok-run_image-clause-shows
-returns-in-Ok-run_image-clause-shows g c = λ bytes told i r image report.
-    let stands : IsImageOf c.args.file.now bytes c.in-Ok.image = c.in-Ok.ensures.stands bytes told in
+returns-in-Ok-run_image-clause-shows g c = λ bytes told form i r image report.
+    let stands : IsImageOf c.args.file.now bytes c.in-Ok.image = c.in-Ok.ensures.stands bytes told form in
     let same_image : c.in-Ok.image ≡ i = cc (c.ran.ensures.image, image) in
     let same_report : c.in-Ok-run_image.report ≡ r = cc (c.ran.ensures.report, report) in
     let shows : Shows c.args.file.now bytes c.in-Ok.image c.in-Ok-run_image.report =

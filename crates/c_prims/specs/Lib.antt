@@ -1,0 +1,10 @@
+pub mod Arithmetic
+pub mod Numerals
+pub mod Printing
+pub mod Strings
+pub mod Comparing
+pub mod Arrays
+pub mod Iterating
+pub mod Trying
+pub mod Texts
+pub mod Routines

@@ -1,0 +1,8 @@
+use Rattle.std.proofs.Common.{append_assoc, refl}
+use Rattle.handler_chain.proofs.searching.put_searching.Goals as goal
+
+pub returns : goal.returns
+returns c =
+    record {
+      more = simp (c.in_ok-put_capture-2.ensures.more, c.in_ok-put_capture.ensures.more, c.in_ok-put-3.ensures.more, c.in_ok-put-2.ensures.more, c.in_ok-put.ensures.more, append_assoc) refl;
+    }
