@@ -3,11 +3,12 @@ use Rattle.std.proofs.Common.{◌≡◌, ◌↔◌, ◌⊎◌, ℕ, List, Option
 use Rattle.fx_base.specs.Faults.{Rose}
 use Rattle.fx_base.specs.Told.{Told}
 use Rattle.fx_base.specs.declared.refusal.Refusal.{Refusal}
-use Rattle.fx_base.specs.declared.refusal.Refusal.TheVariants.{Usage, File, Syntax, Name, IllTyped, Limit, Later, Memory}
+use Rattle.fx_base.specs.declared.refusal.Refusal.TheVariants.{Usage, File, Syntax, Name, IllTyped, Limit, Memory}
 use Rattle.rv_model.specs.declared.image.Image.{Image}
 use Rattle.effects_top.specs.declared.outcome.Outcome.{Outcome}
 use Rattle.effects_top.specs.Words.{Numbers, numbers_of}
-use Rattle.effects_top.specs.Checked.{IsRead, IsUnbuilt, IsCompileBreach, IsFileRefusal}
+use Rattle.effects_top.specs.Checked.{IsRead, IsCompileBreach, IsFileRefusal}
+use Rattle.image_build.specs.Building.{IsBuildRefusal}
 use Rattle.effects_top.specs.Source.{source_limit}
 use Rattle.effects_top.specs.Expression.{Expression}
 use Rattle.effects_top.specs.Form.{IsFormOf}
@@ -23,7 +24,6 @@ file_by (Syntax place) s = absurd (omega (arith, s))
 file_by (Name place) s = absurd (omega (arith, s))
 file_by (IllTyped place) s = absurd (omega (arith, s))
 file_by (Limit kind found bound) s = absurd (omega (arith, s))
-file_by (Later place) s = absurd (omega (arith, s))
 file_by Memory s = absurd (omega (arith, s))
 
 -- and 64 that of no file
@@ -34,7 +34,6 @@ no_usage (Syntax place) is s = omega (arith, s)
 no_usage (Name place) is s = omega (arith, s)
 no_usage (IllTyped place) is s = omega (arith, s)
 no_usage (Limit kind found bound) is s = omega (arith, s)
-no_usage (Later place) is s = omega (arith, s)
 no_usage Memory is s = omega (arith, s)
 
 abbrev error : (T : Type 0) → Refusal → Result T Refusal
@@ -82,7 +81,7 @@ file_refused o refusal name numbers told opened taken faults faults' err err' e 
 
 -- a program that isn't of the form may not be built
 pub compile_breach : (bytes : List ℕ) (r : Result Image Refusal) → IsRead bytes
-    → IfErr r (λ refusal. (refusal ≡ Memory) ⊎ (IsUnbuilt refusal × ((e : Expression) → IsFormOf bytes e → ⊥))) → IfErr r (IsCompileBreach bytes)
+    → IfErr r (λ refusal. (refusal ≡ Memory) ⊎ (IsBuildRefusal refusal × ((e : Expression) → IsFormOf bytes e → ⊥))) → IfErr r (IsCompileBreach bytes)
 compile_breach bytes (Ok image) accepted refused = tt
 compile_breach bytes (Err refusal) accepted (inl is) = inl (rw is tt)
 compile_breach bytes (Err refusal) accepted (inr why) = inr (why.0, record { read = accepted; other_form = why.1 })

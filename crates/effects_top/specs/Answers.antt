@@ -4,7 +4,7 @@ use Rattle.std.specs.Fmt.{decimal}
 use Rattle.fx_base.specs.declared.refusal.LimitKind.{LimitKind}
 use Rattle.fx_base.specs.declared.refusal.LimitKind.TheVariants.{Source, Depth, TypeSize, Slots, Free, Code}
 use Rattle.fx_base.specs.declared.refusal.Refusal.{Refusal}
-use Rattle.fx_base.specs.declared.refusal.Refusal.TheVariants.{Usage, File, Syntax, Name, IllTyped, Limit, Later, Memory}
+use Rattle.fx_base.specs.declared.refusal.Refusal.TheVariants.{Usage, File, Syntax, Name, IllTyped, Limit, Memory}
 use Rattle.rv_model.specs.declared.report.RunEnd.{RunEnd}
 use Rattle.rv_model.specs.declared.report.RunEnd.TheVariants.{Exited, Uncaught, HeapFull, StackFull, CallsFull, OutputFull, BudgetSpent, Deadlock, Broken}
 
@@ -16,7 +16,6 @@ refusal_status (Syntax place) = 65
 refusal_status (Name place) = 65
 refusal_status (IllTyped place) = 66
 refusal_status (Limit kind found bound) = 67
-refusal_status (Later place) = 63
 refusal_status Memory = 70
 
 abbrev pub kind_word : LimitKind → List ℕ
@@ -39,7 +38,6 @@ refusal_line (Syntax place) = place_line (codes "error: syntax at ") place.line 
 refusal_line (Name place) = place_line (codes "error: name at ") place.line place.column
 refusal_line (IllTyped place) = place_line (codes "error: type at ") place.line place.column
 refusal_line (Limit kind found bound) = codes "error: limit " ++ (kind_word kind ++ (codes " " ++ (decimal found ++ (codes " " ++ (decimal bound ++ codes "\n")))))
-refusal_line (Later place) = place_line (codes "error: later at ") place.line place.column
 refusal_line Memory = codes "error: memory\n"
 
 -- the status of the end of a run

@@ -2,7 +2,7 @@
 use Rattle.std.specs.Prelude.{◌≡◌, ◌≤◌, ◌⊎◌, ℕ, List}
 use Rattle.fx_base.specs.Faults.{Rose}
 use Rattle.fx_base.specs.declared.refusal.Refusal.{Refusal}
-use Rattle.fx_base.specs.declared.refusal.Refusal.TheVariants.{Usage, File, Syntax, Name, IllTyped, Limit, Later, Memory}
+use Rattle.fx_base.specs.declared.refusal.Refusal.TheVariants.{Usage, File, Syntax, Name, IllTyped, Limit, Memory}
 use Rattle.ml_lexer.specs.Lexeme.{LexedText}
 use Rattle.ml_lexer.specs.Lexes.{Lexes, FaultsAt, place_after, first_place}
 use Rattle.ml_syntax.specs.declared.prog.Prog.{Prog}
@@ -47,24 +47,15 @@ IsBreach bytes (IllTyped place) = IsRead bytes
 IsBreach bytes Memory = Unit {0}
 IsBreach bytes Usage = ⊥
 IsBreach bytes File = ⊥
-IsBreach bytes (Later place) = ⊥
 
 -- the text is read as a program that isn't of the form `let () = print_int A`
 pub record IsUncompiled (bytes : List ℕ) : Type 0 where
   pub read : IsRead bytes
   pub other_form : (e : Expression) → IsFormOf bytes e → ⊥
 
--- the refusal of a program that uses domains
-abbrev pub not_yet : Refusal
-not_yet = Later (record { line = 1; column = 1 })
-
--- why a program of another form isn't compiled: it uses domains, which don't compile yet, or it isn't built
-abbrev pub IsUnbuilt : Refusal → Type 0
-IsUnbuilt refusal = (refusal ≡ not_yet) ⊎ IsBuildRefusal refusal
-
 -- why a text isn't compiled: it doesn't pass `check`, or it is read as a program of another form that isn't built
 abbrev pub IsCompileBreach : List ℕ → Refusal → Type 0
-IsCompileBreach bytes refusal = IsBreach bytes refusal ⊎ (IsUnbuilt refusal × IsUncompiled bytes)
+IsCompileBreach bytes refusal = IsBreach bytes refusal ⊎ (IsBuildRefusal refusal × IsUncompiled bytes)
 
 -- why a file is refused, of which so many bytes were taken while its faults went from the first number to the second: reading
 -- failed, it has too many bytes, or this is wrong with its text

@@ -1,6 +1,5 @@
 pub mod Answers
 pub mod Compiled
-pub mod Domains
 pub mod Expression
 pub mod Form
 pub mod Headline

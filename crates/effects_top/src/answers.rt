@@ -19,7 +19,6 @@ pub fn refusal_status(refusal: Refusal) -> Status
         Refusal::IllTyped(_) => 66,
         Refusal::Limit { .. } => 67,
         Refusal::File => 68,
-        Refusal::Later(_) => 63,
         Refusal::Memory => 70,
     })
 }
@@ -80,7 +79,6 @@ pub fn tell_refusal<S: Sink>(sink: &mut S, refusal: Refusal) -> Written
         Refusal::Name(place) => tell_place(sink, b"error: name at ", place),
         Refusal::IllTyped(place) => tell_place(sink, b"error: type at ", place),
         Refusal::Limit { kind, found, bound } => tell_limit(sink, kind, found, bound),
-        Refusal::Later(place) => tell_place(sink, b"error: later at ", place),
         Refusal::Memory => write_all(sink, b"error: memory\n"),
     }
 }

@@ -10,7 +10,7 @@
 //!
 //! The definitions stand in `specs/`: `Checked` for what a program is and why a file is refused, `Form`
 //! and `Spelling` for the form that has its own compiler, `Expression` and `Compiled` for its code,
-//! `Standing` and `Headline` for the promise, `Domains` for the programs that don't compile yet.
+//! `Standing` and `Headline` for the promise.
 //!
 //! Stands on: `fx_base`, `ml_lexer`, `ml_syntax`, `ml_parser`, `prelude_ml`, `effect_meaning`,
 //! `core_terms`, `type_terms`, `ml_infer`, `rv_model`, `rv_asm`, `serial_runner`, `image_build`, `itoa`.
@@ -19,7 +19,6 @@
 mod answers;
 mod check;
 mod compile;
-mod domains;
 mod made;
 mod outcome;
 mod output;

@@ -1,26 +1,25 @@
 //! A file's program: its image, and a run of it.
 
-ghost use Rattle.std.specs.Prelude.{◌≡◌, ℕ, ◌≤◌, ◌⊎◌, ◌↔◌, List, None, Some, IfOk, IfErr, OnErr, IsErrOf, IsTrue, length};
+ghost use Rattle.std.specs.Prelude.{◌≡◌, ℕ, ◌≤◌, ◌⊎◌, ◌↔◌, List, None, Some, IfOk, IfErr, OnErr, IsErrOf, length};
 ghost use Rattle.fx_base.specs.Faults.{Rose};
 ghost use Rattle.fx_base.specs.Told.{Holds};
 ghost use Rattle.prelude_ml.specs.MadeText.{made_text};
-ghost use Rattle.effects_top.specs.Domains.{uses_domains};
+ghost use Rattle.image_build.specs.Building.{IsBuildRefusal};
 ghost use Rattle.effects_top.specs.Expression.{Expression};
 ghost use Rattle.effects_top.specs.Form.{IsFormOf, IsOfForm};
 ghost use Rattle.serial_runner.specs.Reported.{IsRunOf};
 ghost use Rattle.effects_top.specs.Headline.{IsImageOf, Shows};
 ghost use Rattle.effects_top.specs.Source.{source_limit};
 ghost use Rattle.effects_top.specs.Output.{Wrote};
-ghost use Rattle.effects_top.specs.Checked.{IsRead, IsUnbuilt, IsCompileBreach, IsCause, IsFileRefusal, not_yet};
+ghost use Rattle.effects_top.specs.Checked.{IsRead, IsCompileBreach, IsCause, IsFileRefusal};
 
 use crate::check::check_text;
 use crate::compile::compile;
-use crate::domains;
 use crate::made::MadeNumber;
 use crate::output::write_all;
 use crate::reader::read_form;
 use crate::source::read_source;
-use fx_base::{Files, Place, Refusal, Settings, Sink, Turns, Written};
+use fx_base::{Files, Refusal, Settings, Sink, Turns, Written};
 use image_build::build;
 use prelude_ml::make_program;
 use rv_model::{Image, Report};
@@ -37,18 +36,6 @@ pub struct Ran {
     pub written: Written,
 }
 
-// The image of a program that isn't of the form.
-fn image_of_program(alloc: Global, typed: &Typed, settings: &Settings) -> Result<Image, Refusal>
-    ensures settings { IfOk result (λ image. image.settings ≡ settings.now) }
-    ensures later { IsErrOf result not_yet ↔ IsTrue (uses_domains typed.now.core) }
-    ensures refused { IfErr result IsUnbuilt }
-{
-    if domains::uses_domains(typed.core()) {
-        return Err(Refusal::Later(Place { line: 1, column: 1 }));
-    }
-    build(alloc, typed, settings)
-}
-
 // The image of the program that a text is, which has these types: a text of the form has its own
 // compiler.
 fn image_of_text(
@@ -59,11 +46,10 @@ fn image_of_text(
 ) -> Result<Image, Refusal>
     ensures stands { (file : List ℕ) → IsOfForm text.now → IfOk result (IsImageOf file text.now) }
     ensures settings { IfOk result (λ image. image.settings ≡ settings.now) }
-    ensures later { IsErrOf result not_yet → IsTrue (uses_domains typed.now.core) }
-    ensures refused { IfErr result (λ refusal. (refusal ≡ Refusal.Memory) ⊎ (IsUnbuilt refusal × ((e : Expression) → ¬ IsFormOf text.now e))) }
+    ensures refused { IfErr result (λ refusal. (refusal ≡ Refusal.Memory) ⊎ (IsBuildRefusal refusal × ((e : Expression) → ¬ IsFormOf text.now e))) }
 {
     let Some(postfix) = read_form(alloc, text)? else {
-        return image_of_program(alloc, typed, settings);
+        return build(alloc, typed, settings);
     };
     Ok(compile(alloc, &postfix, settings)?)
 }
@@ -90,8 +76,8 @@ fn compile_text(
 /// # Errors
 ///
 /// Those of [`check_file`](crate::check_file); where the program isn't of the form
-/// `let () = print_int A`, `Later` at 1:1 where it uses domains, and `Limit` where a function has too
-/// many slots or free names or the image too many instructions.
+/// `let () = print_int A`, `Limit` where a function has too many slots or free names or the image too
+/// many instructions.
 pub fn compile_file<F: Files>(
     alloc: Global,
     files: &mut F,

@@ -58,9 +58,6 @@ pub enum Refusal {
         found: u64,
         bound: u64,
     },
-    /// The program uses a form or a built-in name that is not compiled yet.
-    #[error("later at {}:{}", .0.line, .0.column)]
-    Later(Place),
     /// Memory is not there.
     #[error("memory")]
     Memory,

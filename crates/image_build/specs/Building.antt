@@ -2,7 +2,7 @@
 use Rattle.fx_base.specs.declared.refusal.LimitKind.{LimitKind}
 use Rattle.fx_base.specs.declared.refusal.LimitKind.TheVariants.{Source, Depth, TypeSize, Slots, Free, Code}
 use Rattle.fx_base.specs.declared.refusal.Refusal.{Refusal}
-use Rattle.fx_base.specs.declared.refusal.Refusal.TheVariants.{Usage, File, Syntax, Name, IllTyped, Limit, Later, Memory}
+use Rattle.fx_base.specs.declared.refusal.Refusal.TheVariants.{Usage, File, Syntax, Name, IllTyped, Limit, Memory}
 
 -- the limits of a function's slots, of its free names, and of an image's instructions
 abbrev pub IsBuildLimit : LimitKind → Type 0
@@ -22,4 +22,3 @@ IsBuildRefusal File = ⊥
 IsBuildRefusal (Syntax place) = ⊥
 IsBuildRefusal (Name place) = ⊥
 IsBuildRefusal (IllTyped place) = ⊥
-IsBuildRefusal (Later place) = ⊥

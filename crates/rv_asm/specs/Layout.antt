@@ -7,7 +7,7 @@ use Rattle.rv_model.specs.declared.line.Line.{Line}
 use Rattle.rv_model.specs.declared.line.Line.TheVariants.{Label, Plain, Branch, Jump, Const, CodeOf}
 use Rattle.fx_base.specs.declared.refusal.LimitKind.TheVariants.{Code}
 use Rattle.fx_base.specs.declared.refusal.Refusal.{Refusal}
-use Rattle.fx_base.specs.declared.refusal.Refusal.TheVariants.{Usage, File, Syntax, Name, IllTyped, Limit, Later, Memory}
+use Rattle.fx_base.specs.declared.refusal.Refusal.TheVariants.{Usage, File, Syntax, Name, IllTyped, Limit, Memory}
 use Rattle.rv_asm.specs.declared.assembled.LabelPlace.{LabelPlace}
 use Rattle.rv_asm.specs.Lines.{size_of, line_code}
 
@@ -117,4 +117,3 @@ IsRefused lines File = ⊥
 IsRefused lines (Syntax place) = ⊥
 IsRefused lines (Name place) = ⊥
 IsRefused lines (IllTyped place) = ⊥
-IsRefused lines (Later place) = ⊥

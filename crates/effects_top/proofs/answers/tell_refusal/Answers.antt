@@ -12,8 +12,5 @@ returns-in-IllTyped g c = rw c.in-IllTyped.is c.tell_place-in-IllTyped.ensures
 pub returns-in-Limit : goal.returns-in-Limit
 returns-in-Limit g c = rw c.in-Limit.is c.tell_limit.ensures
 
-pub returns-in-Later : goal.returns-in-Later
-returns-in-Later g c = rw c.in-Later.is c.tell_place-in-Later.ensures
-
 pub returns-in-Memory : goal.returns-in-Memory
 returns-in-Memory g c = rw c.in-Memory.is c.write_all-in-Memory.ensures
