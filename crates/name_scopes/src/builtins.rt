@@ -315,7 +315,7 @@ static QUEUE_VALUES: [Named<ModuleValue>; 7] = [
     },
 ];
 
-static FIBERQ_VALUES: [Named<ModuleValue>; 4] = [
+static FIBERQ_VALUES: [Named<ModuleValue>; 5] = [
     Named {
         name: b"push",
         meaning: ModuleValue::Known(taking!(Operation::QueuePush, 1)),
@@ -331,6 +331,10 @@ static FIBERQ_VALUES: [Named<ModuleValue>; 4] = [
     Named {
         name: b"slots",
         meaning: ModuleValue::Known(taking!(Operation::QueueSlots, 1)),
+    },
+    Named {
+        name: b"steal",
+        meaning: ModuleValue::Prelude(b"fiberq_steal"),
     },
 ];
 

@@ -70,6 +70,7 @@ impl<'a> Scopes<'a> {
     pub fn end_prelude(&mut self) -> Result<(), AllocError> {
         self.keep_module(Module::List)?;
         self.keep_module(Module::Queue)?;
+        self.keep_module(Module::Fiberq)?;
         self.values.leave(plain_values().len());
         self.types.leave(plain_types().len());
         self.fields.leave(0);

@@ -6,7 +6,7 @@ abbrev pub ended : List (List ℕ) → List ℕ
 ended [] = []
 ended (line ∷ rest) = line ++ (codes "\n" ++ ended rest)
 
--- the prelude, line by line: operations on lists, then queues
+-- the prelude, line by line: operations on lists, then queues, then a search through the queues of suspended fibers
 abbrev pub prelude_text : List ℕ
 prelude_text = ended (
     codes "let rec list_length_from n l = match l with [] -> n | _ :: r -> list_length_from (n + 1) r"
@@ -28,4 +28,9 @@ prelude_text = ended (
     ∷ codes "  | [] -> if q.size = 0 then raise Queue.Empty"
     ∷ codes "    else begin q.front <- list_rev q.back; q.back <- []; queue_pop q end"
     ∷ codes "let queue_take q = queue_pop q"
+    ∷ codes "let rec fiberq_steal_from i n = if n = 0 then None"
+    ∷ codes "  else match Fiberq.take_from (i mod Fiberq.slots ()) with"
+    ∷ codes "  | Some k -> Some k"
+    ∷ codes "  | None -> fiberq_steal_from (i + 1) (n - 1)"
+    ∷ codes "let fiberq_steal () = fiberq_steal_from (Fiberq.self ()) (Fiberq.slots ())"
     ∷ [])

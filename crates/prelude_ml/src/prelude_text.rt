@@ -23,9 +23,15 @@ let rec queue_pop q = match q.front with
   | [] -> if q.size = 0 then raise Queue.Empty
     else begin q.front <- list_rev q.back; q.back <- []; queue_pop q end
 let queue_take q = queue_pop q
+let rec fiberq_steal_from i n = if n = 0 then None
+  else match Fiberq.take_from (i mod Fiberq.slots ()) with
+  | Some k -> Some k
+  | None -> fiberq_steal_from (i + 1) (n - 1)
+let fiberq_steal () = fiberq_steal_from (Fiberq.self ()) (Fiberq.slots ())
 ";
 
-/// The text of the prelude: the operations on lists, and queues with the operations on them.
+/// The text of the prelude: the operations on lists, queues with the operations on them, and a search
+/// through the queues of suspended fibers.
 pub fn prelude() -> &'static str
     ensures { result.now ≡ prelude_text }
 {

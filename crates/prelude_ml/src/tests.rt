@@ -21,13 +21,13 @@ fn has_a_prelude(rt: HostRuntime) -> Result<(), Fail> {
     assert!(rt;
         text.starts_with("let rec list_length_from n l = match l with [] -> n | _ :: r -> ")
     );
-    assert!(rt; text.ends_with("q.back <- []; queue_pop q end\nlet queue_take q = queue_pop q\n"));
+    assert!(rt; text.ends_with("fiberq_steal_from (Fiberq.self ()) (Fiberq.slots ())\n"));
     assert_eq!(rt;
         text.as_bytes()
             .iter()
             .filter(|byte| **byte == b'\n')
             .count(),
-        19
+        24
     );
     Ok(())
 }

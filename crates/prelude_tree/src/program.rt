@@ -36,12 +36,25 @@ enum Form {
     PatternNil,
     PatternName(&'static [u8]),
     PatternCons(u32, u32),
+    /// A constructor with the pattern of its argument.
+    PatternConstruct(&'static [u8], u32),
+    PatternConstructor(&'static [u8]),
     Variable(&'static [u8]),
-    Constructor {
+    /// A value of a module.
+    ModuleVariable {
         module: &'static [u8],
         name: &'static [u8],
         name_place: Place,
     },
+    Constructor(&'static [u8]),
+    /// A constructor of a module.
+    ModuleConstructor {
+        module: &'static [u8],
+        name: &'static [u8],
+        name_place: Place,
+    },
+    /// A constructor with its argument.
+    Construct(&'static [u8], u32),
     Integer(&'static [u8]),
     Unit,
     Nil,
@@ -99,7 +112,7 @@ struct QueueField {
     annotation: u32,
 }
 
-static NODES: [Entry; 196] = [
+static NODES: [Entry; 238] = [
     Entry {
         place: place!(1, 26),
         form: Form::PatternName(b"n"),
@@ -867,7 +880,7 @@ static NODES: [Entry; 196] = [
     },
     Entry {
         place: place!(17, 36),
-        form: Form::Constructor {
+        form: Form::ModuleConstructor {
             module: b"Queue",
             name: b"Empty",
             name_place: place!(17, 42),
@@ -970,6 +983,190 @@ static NODES: [Entry; 196] = [
     Entry {
         place: place!(19, 20),
         form: Form::Apply(193, &[194]),
+    },
+    Entry {
+        place: place!(20, 27),
+        form: Form::PatternName(b"i"),
+    },
+    Entry {
+        place: place!(20, 29),
+        form: Form::PatternName(b"n"),
+    },
+    Entry {
+        place: place!(20, 36),
+        form: Form::Variable(b"n"),
+    },
+    Entry {
+        place: place!(20, 40),
+        form: Form::Integer(b"0"),
+    },
+    Entry {
+        place: place!(20, 38),
+        form: Form::Binary(BinaryOperator::Equal, 198, 199),
+    },
+    Entry {
+        place: place!(20, 47),
+        form: Form::Constructor(b"None"),
+    },
+    Entry {
+        place: place!(21, 14),
+        form: Form::ModuleVariable {
+            module: b"Fiberq",
+            name: b"take_from",
+            name_place: place!(21, 21),
+        },
+    },
+    Entry {
+        place: place!(21, 32),
+        form: Form::Variable(b"i"),
+    },
+    Entry {
+        place: place!(21, 38),
+        form: Form::ModuleVariable {
+            module: b"Fiberq",
+            name: b"slots",
+            name_place: place!(21, 45),
+        },
+    },
+    Entry {
+        place: place!(21, 51),
+        form: Form::Unit,
+    },
+    Entry {
+        place: place!(21, 38),
+        form: Form::Apply(204, &[205]),
+    },
+    Entry {
+        place: place!(21, 34),
+        form: Form::Binary(BinaryOperator::Modulo, 203, 206),
+    },
+    Entry {
+        place: place!(21, 31),
+        form: Form::Bracket(207),
+    },
+    Entry {
+        place: place!(21, 14),
+        form: Form::Apply(202, &[208]),
+    },
+    Entry {
+        place: place!(22, 10),
+        form: Form::PatternName(b"k"),
+    },
+    Entry {
+        place: place!(22, 5),
+        form: Form::PatternConstruct(b"Some", 210),
+    },
+    Entry {
+        place: place!(22, 20),
+        form: Form::Variable(b"k"),
+    },
+    Entry {
+        place: place!(22, 15),
+        form: Form::Construct(b"Some", 212),
+    },
+    Entry {
+        place: place!(23, 5),
+        form: Form::PatternConstructor(b"None"),
+    },
+    Entry {
+        place: place!(23, 13),
+        form: Form::Variable(b"fiberq_steal_from"),
+    },
+    Entry {
+        place: place!(23, 32),
+        form: Form::Variable(b"i"),
+    },
+    Entry {
+        place: place!(23, 36),
+        form: Form::Integer(b"1"),
+    },
+    Entry {
+        place: place!(23, 34),
+        form: Form::Binary(BinaryOperator::Add, 216, 217),
+    },
+    Entry {
+        place: place!(23, 31),
+        form: Form::Bracket(218),
+    },
+    Entry {
+        place: place!(23, 40),
+        form: Form::Variable(b"n"),
+    },
+    Entry {
+        place: place!(23, 44),
+        form: Form::Integer(b"1"),
+    },
+    Entry {
+        place: place!(23, 42),
+        form: Form::Binary(BinaryOperator::Subtract, 220, 221),
+    },
+    Entry {
+        place: place!(23, 39),
+        form: Form::Bracket(222),
+    },
+    Entry {
+        place: place!(23, 13),
+        form: Form::Apply(215, &[219, 223]),
+    },
+    Entry {
+        place: place!(21, 8),
+        form: Form::Match(209, &[(211, 213), (214, 224)]),
+    },
+    Entry {
+        place: place!(20, 33),
+        form: Form::If(200, 201, 225),
+    },
+    Entry {
+        place: place!(24, 18),
+        form: Form::PatternUnit,
+    },
+    Entry {
+        place: place!(24, 23),
+        form: Form::Variable(b"fiberq_steal_from"),
+    },
+    Entry {
+        place: place!(24, 42),
+        form: Form::ModuleVariable {
+            module: b"Fiberq",
+            name: b"self",
+            name_place: place!(24, 49),
+        },
+    },
+    Entry {
+        place: place!(24, 54),
+        form: Form::Unit,
+    },
+    Entry {
+        place: place!(24, 42),
+        form: Form::Apply(229, &[230]),
+    },
+    Entry {
+        place: place!(24, 41),
+        form: Form::Bracket(231),
+    },
+    Entry {
+        place: place!(24, 59),
+        form: Form::ModuleVariable {
+            module: b"Fiberq",
+            name: b"slots",
+            name_place: place!(24, 66),
+        },
+    },
+    Entry {
+        place: place!(24, 72),
+        form: Form::Unit,
+    },
+    Entry {
+        place: place!(24, 59),
+        form: Form::Apply(233, &[234]),
+    },
+    Entry {
+        place: place!(24, 58),
+        form: Form::Bracket(235),
+    },
+    Entry {
+        place: place!(24, 23),
+        form: Form::Apply(228, &[232, 236]),
     },
 ];
 
@@ -1101,6 +1298,26 @@ static QUEUES: [Definition; 7] = [
     },
 ];
 
+/// The functions that take from the queues of suspended fibers.
+static FIBER_QUEUES: [Definition; 2] = [
+    Definition {
+        place: place!(20, 1),
+        is_recursive: true,
+        name: b"fiberq_steal_from",
+        name_place: place!(20, 9),
+        parameters: &[196, 197],
+        body: 226,
+    },
+    Definition {
+        place: place!(24, 1),
+        is_recursive: false,
+        name: b"fiberq_steal",
+        name_place: place!(24, 5),
+        parameters: &[227],
+        body: 237,
+    },
+];
+
 static QUEUE_FIELDS: [QueueField; 3] = [
     QueueField {
         name: b"front",
@@ -1168,6 +1385,13 @@ fn type_or_pattern(alloc: Global, place: Place, form: Form) -> Result<Node, Allo
             name: Text::new(alloc, text)?,
         },
         Form::PatternCons(head, tail) => Node::PatternCons { place, head, tail },
+        Form::PatternConstruct(text, argument) => Node::PatternConstruct {
+            constructor: short_name(alloc, place, text)?,
+            argument,
+        },
+        Form::PatternConstructor(text) => Node::PatternConstructor {
+            name: short_name(alloc, place, text)?,
+        },
         _ => Node::PatternAny { place },
     })
 }
@@ -1177,12 +1401,26 @@ fn plain(alloc: Global, place: Place, form: Form) -> Result<Node, AllocError> {
         Form::Variable(text) => Node::Variable {
             name: short_name(alloc, place, text)?,
         },
-        Form::Constructor {
+        Form::ModuleVariable {
+            module,
+            name: last,
+            name_place,
+        } => Node::Variable {
+            name: qualified(alloc, place, module, name(alloc, name_place, last)?)?,
+        },
+        Form::Constructor(text) => Node::Constructor {
+            name: short_name(alloc, place, text)?,
+        },
+        Form::ModuleConstructor {
             module,
             name: last,
             name_place,
         } => Node::Constructor {
             name: qualified(alloc, place, module, name(alloc, name_place, last)?)?,
+        },
+        Form::Construct(text, argument) => Node::Construct {
+            constructor: short_name(alloc, place, text)?,
+            argument,
         },
         Form::Integer(text) => Node::Constant {
             place,
@@ -1375,6 +1613,7 @@ pub fn prelude_program(alloc: Global) -> Result<Prog, AllocError> {
     define(alloc, &mut items, &LISTS)?;
     items.push(queue_type(alloc)?)?;
     define(alloc, &mut items, &QUEUES)?;
+    define(alloc, &mut items, &FIBER_QUEUES)?;
     Ok(Prog {
         nodes: nodes(alloc)?,
         items,

@@ -4,7 +4,7 @@ use Rattle.std.specs.Prelude.{ℕ, ◌==◌, List, [], ◌∷◌, ◌++◌, Opti
 use Rattle.ml_syntax.specs.declared.node.Name.{Name}
 use Rattle.ml_syntax.specs.declared.node.LongName.{LongName}
 use Rattle.effect_meaning.specs.Terms.{Constructor}
-use Rattle.surface_meaning.specs.Scope.{Value, TypeName, Module, ListModule, QueueModule, Entry, Scope, entry, meaning}
+use Rattle.surface_meaning.specs.Scope.{Value, TypeName, Module, ListModule, QueueModule, FiberqModule, Entry, Scope, entry, meaning}
 use Rattle.surface_meaning.specs.BuiltinNames.{plain_values, builtin_values, plain_types, builtin_types_in, plain_constructors, constructors_in, plain_modules, modules_in}
 
 -- what stands behind a front of a text, where the text has it
@@ -23,10 +23,16 @@ abbrev pub without_front : {X : Type 0} → List ℕ → List (Entry X) → List
 without_front f [] = []
 without_front f (e ∷ es) = and_entry (behind f e.text) e.meaning (without_front f es)
 
--- the values of a module. List.f is the prelude's list_f, and Queue.f is its queue_f
+-- one more name, if it means something
+abbrev pub and_value : {X : Type 0} → List ℕ → Option X → List (Entry X) → List (Entry X)
+and_value t None es = es
+and_value t (Some x) es = entry t x ∷ es
+
+-- the values of a module. List.f is the prelude's list_f, Queue.f is its queue_f, and Fiberq.steal is its fiberq_steal
 abbrev pub values_in : Scope → Module → List (Entry Value)
 values_in s ListModule = without_front (codes "list_") s.prelude_values
 values_in s QueueModule = without_front (codes "queue_") s.prelude_values
+values_in s FiberqModule = and_value (codes "steal") (meaning s.prelude_values (codes "fiberq_steal")) (builtin_values FiberqModule)
 values_in s m = builtin_values m
 
 -- the types of a module. Queue.t is the prelude's queue_t
