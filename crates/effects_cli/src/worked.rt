@@ -254,6 +254,73 @@ pub const WORKED: &[Worked] = &[
         printed: "4",
         line: "",
     },
+    // Domains and queues of fibers.
+    Worked {
+        options: &[],
+        text: "open Effect\n\
+               open Effect.Deep\n\
+               type _ Effect.t += Ask : int Effect.t\n\
+               let store = ref None\n\
+               let _ = match 2 + perform Ask with\n\
+               \x20 | v -> v\n\
+               \x20 | effect Ask, k -> store := Some k; 0\n\
+               let () = match !store with\n\
+               \x20 | None -> ()\n\
+               \x20 | Some k -> print_int (Domain.join (Domain.spawn (fun () -> continue k 40)))\n",
+        status: 0,
+        printed: "42",
+        line: "",
+    },
+    Worked {
+        options: &["--domains", "1"],
+        text: "let () = try ignore (Domain.spawn (fun () -> ())) with Failure s -> print_string s\n",
+        status: 0,
+        printed: "Domain.spawn",
+        line: "",
+    },
+    Worked {
+        options: &["--domains", "2", "--turns", "1"],
+        text: "let rec go n = if n = 0 then print_string \"ok\"\n\
+               \x20 else begin Domain.join (Domain.spawn (fun () -> ())); go (n - 1) end\n\
+               let () = go 20\n",
+        status: 0,
+        printed: "ok",
+        line: "",
+    },
+    Worked {
+        options: &["--stack", "512", "--turns", "7"],
+        text: "open Effect\n\
+               open Effect.Deep\n\
+               type _ Effect.t += Pause : unit Effect.t\n\
+               let sum = Atomic.make 0\n\
+               let park i = match perform Pause; ignore (Atomic.fetch_and_add sum i) with\n\
+               \x20 | () -> ()\n\
+               \x20 | effect Pause, k -> Fiberq.push k\n\
+               let rec drain () = match Fiberq.steal () with\n\
+               \x20 | None -> ()\n\
+               \x20 | Some k -> continue k (); drain ()\n\
+               let () =\n\
+               \x20 for i = 1 to 100 do park i done;\n\
+               \x20 let d = Domain.spawn drain in\n\
+               \x20 drain (); Domain.join d; print_int (Atomic.get sum)\n",
+        status: 0,
+        printed: "5050",
+        line: "",
+    },
+    Worked {
+        options: &["--turns", "10"],
+        text: "let c1 = Atomic.make None\n\
+               let c2 = Atomic.make None\n\
+               let rec get c = match Atomic.get c with Some d -> d | None -> get c\n\
+               let () =\n\
+               \x20 let d1 = Domain.spawn (fun () -> Domain.join (get c2)) in\n\
+               \x20 let d2 = Domain.spawn (fun () -> Domain.join (get c1)) in\n\
+               \x20 Atomic.set c1 (Some d1); Atomic.set c2 (Some d2);\n\
+               \x20 Domain.join d1\n",
+        status: 75,
+        printed: "",
+        line: "error: deadlock\n",
+    },
 ];
 
 /// Programs that take much memory, or many instructions.
