@@ -13,13 +13,11 @@ its message, and those that are refused here. It ends with status 1 where a prog
 isn't the same.
 """
 import collections
-import os
 import re
 import sys
 
 import program_cases
 
-EXAMPLES = os.path.join(os.path.dirname(os.path.abspath(__file__)), '..', 'examples')
 PRODUCT, OCAML, SECONDS = [], [], 60
 
 
@@ -36,12 +34,6 @@ def exception_name(line):
     if found.group(1) == b'File':
         return b'Match_failure'
     return found.group(1).split(b'.')[-1]
-
-
-def head(text):
-    """The lines that the head of an example says are printed, or None where it has no head."""
-    found = re.search(r'Prints: (.*?)\*\)', text.decode('latin-1'), re.S)
-    return found and [line.strip() for line in found.group(1).strip().split('\n')]
 
 
 def message(text):
@@ -62,8 +54,8 @@ def compare(case):
         return 'refused here', err.decode('latin-1').strip()
     if 69 <= status <= 79:
         return 'early end', err.decode('latin-1').strip()
-    wanted = head(case.text)
-    if wanted and wanted != [line.strip() for line in printed.decode('latin-1').rstrip('\n').split('\n')]:
+    wanted = program_cases.told_by_head(case.text)
+    if wanted and wanted != program_cases.printed_lines(printed):
         return 'different', '%r by OCaml, not as the head says' % printed
     if (status, out, exception_name(err)) == (theirs, printed, exception_name(said)):
         return 'the same', ''
@@ -72,7 +64,7 @@ def compare(case):
 
 def main():
     given = program_cases.arguments(__doc__, 'PRODUCT', 'OCAML5')
-    examples = program_cases.of_files([EXAMPLES])
+    examples = program_cases.of_files([program_cases.EXAMPLES])
     cases = examples + program_cases.cases(given, for_ocaml=True)
     settings = (program_cases.command(given.product), program_cases.command(given.ocaml5), given.seconds)
     kinds, messages, wrong = collections.Counter(), collections.Counter(), 0

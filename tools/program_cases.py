@@ -3,6 +3,7 @@ import argparse
 import json
 import multiprocessing
 import os
+import re
 import shlex
 import subprocess
 import sys
@@ -13,6 +14,7 @@ import random_programs
 
 USUAL = {'heap': 1048576, 'stack': 131072, 'out': 1048576, 'budget': 1073741824, 'domains': 4}
 NO_END = 'no end in time'
+EXAMPLES = os.path.join(os.path.dirname(os.path.abspath(__file__)), '..', 'examples')
 
 
 class Case:
@@ -36,6 +38,16 @@ def of_files(paths):
             with open(path, 'rb') as file:
                 found.append(Case(path, os.path.basename(path), file.read()))
     return found
+
+
+def told_by_head(text):
+    """The lines that the head of an example says are printed, or None where it has no head."""
+    found = re.search(r'Prints: (.*?)\*\)', text.decode('latin-1'), re.S)
+    return found and [line.strip() for line in found.group(1).strip().split('\n')]
+
+
+def printed_lines(printed):
+    return [line.strip() for line in printed.decode('latin-1').rstrip('\n').split('\n')]
 
 
 def of_seeds(seed, count, for_ocaml=False):
