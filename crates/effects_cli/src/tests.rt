@@ -143,23 +143,7 @@ fn checks_compiles_and_runs_a_file(rt: HostRuntime) -> Result<(), Fail> {
 
 #[test]
 fn refuses_texts(rt: HostRuntime) -> Result<(), Fail> {
-    let later = (63, "error: later at 1:1\n");
     for (words, text, (status, line)) in [
-        (
-            ["run", "a.ml"].as_slice(),
-            "let f () = Domain.join (Domain.spawn (fun () -> 1))",
-            later,
-        ),
-        (
-            ["asm", "a.ml"].as_slice(),
-            "open Domain let x : int Domain.t option = None",
-            later,
-        ),
-        (
-            ["run", "a.ml"].as_slice(),
-            "let () = try () with Fiberq.Full -> ()",
-            later,
-        ),
         (
             ["run", "a.ml"].as_slice(),
             "let () = print_int6",

@@ -37,7 +37,8 @@ fn is_unordered(instr: &Instr) -> bool
     !instr.aq && !instr.rl
 }
 
-fn fits(instr: &Instr) -> bool
+// Whether an operation on two registers has no immediate and no order.
+fn registers_fit(instr: &Instr) -> bool
     ensures { IsTrue result → IsTrue (fits_spec (format instr.now.op) instr.now) }
 {
     match instr.op {
@@ -61,6 +62,14 @@ fn fits(instr: &Instr) -> bool
         | Op::Remu
         | Op::Addw
         | Op::Subw => is_nothing(instr.imm) && is_unordered(instr),
+        _ => false,
+    }
+}
+
+fn fits(instr: &Instr) -> bool
+    ensures { IsTrue result → IsTrue (fits_spec (format instr.now.op) instr.now) }
+{
+    match instr.op {
         Op::Addi
         | Op::Slti
         | Op::Sltiu
@@ -83,7 +92,7 @@ fn fits(instr: &Instr) -> bool
                 && instr.rs2 == 0
                 && is_unordered(instr)
         }
-        _ => false,
+        _ => registers_fit(instr),
     }
 }
 

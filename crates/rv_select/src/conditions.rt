@@ -86,44 +86,54 @@ impl Selector {
                 to,
                 when: !when,
             }]),
-            Condition::Both {
-                node,
-                first,
-                between,
-                second,
-            } => self.two(
-                Two {
-                    node,
-                    first,
-                    between,
-                    second,
-                },
-                to,
-                when,
-                when,
-            ),
-            Condition::Either {
-                node,
-                first,
-                between,
-                second,
-            } => self.two(
-                Two {
-                    node,
-                    first,
-                    between,
-                    second,
-                },
-                to,
-                when,
-                !when,
-            ),
             Condition::True { before, register } => self.next(&[
                 Task::steps(before),
                 Task::Line(assembly_line!(andi T0, register, 2)),
                 Task::Line(bit_line(when, to)),
             ]),
+            both_or_either => self.branch_on_two(both_or_either, to, when),
         }
+    }
+
+    // The same for a condition on two others.
+    fn branch_on_two(
+        &mut self,
+        condition: Condition,
+        to: u32,
+        when: bool,
+    ) -> Result<(), AllocError> {
+        let (two, past) = match condition {
+            Condition::Both {
+                node,
+                first,
+                between,
+                second,
+            } => {
+                let two = Two {
+                    node,
+                    first,
+                    between,
+                    second,
+                };
+                (two, when)
+            }
+            Condition::Either {
+                node,
+                first,
+                between,
+                second,
+            } => {
+                let two = Two {
+                    node,
+                    first,
+                    between,
+                    second,
+                };
+                (two, !when)
+            }
+            _ => return Err(AllocError),
+        };
+        self.two(two, to, when, past)
     }
 
     // Two conditions. Where the first isn't `when`, the code goes past the second, or looks at it.

@@ -18,8 +18,26 @@ fn one(alloc: Global, item: u8) -> Result<Sequence<u8>, AllocError> {
     Ok(Sequence::from_vec(Vec::from_array(alloc, [item])?))
 }
 
-// let () = (print_int 7; print_newline 0), in a frame without slots.
-fn program(alloc: Global) -> Result<LowProgram, AllocError> {
+// The one item, whose body is block 1.
+fn item() -> LowFunction {
+    LowFunction {
+        kind: FunctionKind::Item {
+            test: None,
+            next: Next::End,
+            body: 1,
+        },
+        slots: 1,
+        closure: false,
+        head: None,
+        keeps_frame: false,
+        place: HERE,
+        checks: None,
+        total: true,
+    }
+}
+
+// The item's body: block 0 stands in the frame, block 1 in front of it.
+fn blocks(alloc: Global) -> Result<Vec<Block>, AllocError> {
     let print = Low::Transfer(Transfer {
         node: 3,
         target: Target::Routine(Operation::PrintInteger),
@@ -39,23 +57,14 @@ fn program(alloc: Global) -> Result<LowProgram, AllocError> {
     };
     let inside = Sequence::from_vec(Vec::from_array(alloc, [print, give, Low::Return])?);
     let outside = Sequence::from_vec(Vec::from_array(alloc, [seven, framed])?);
-    let item = LowFunction {
-        kind: FunctionKind::Item {
-            test: None,
-            next: Next::End,
-            body: 1,
-        },
-        slots: 1,
-        closure: false,
-        head: None,
-        keeps_frame: false,
-        place: HERE,
-        checks: None,
-        total: true,
-    };
+    Vec::from_array(alloc, [Block::Low(inside), Block::Body(outside)])
+}
+
+// let () = (print_int 7; print_newline 0), in a frame without slots.
+fn program(alloc: Global) -> Result<LowProgram, AllocError> {
     Ok(LowProgram {
-        functions: Vec::from_array(alloc, [item])?,
-        blocks: Vec::from_array(alloc, [Block::Low(inside), Block::Body(outside)])?,
+        functions: Vec::from_array(alloc, [item()])?,
+        blocks: blocks(alloc)?,
         conditions: Vec::new(alloc),
         clauses: Vec::new(alloc),
         handlers: Vec::new(alloc),
