@@ -30,9 +30,6 @@ import lexer
 import parser
 import scope
 
-# the repository's prelude ends here
-scope.PRELUDE = scope.PRELUDE[:scope.PRELUDE.index('let rec fiberq_steal_from')]
-
 HEAD = '''-- Made from programs.
 use Rattle.std.proofs.Common.{◌≡◌, refl, ℕ, pos, negsuc, true, false, List, [], ◌∷◌, ◌++◌, Option, Some, None, codes}
 use Rattle.std.specs.Prelude.{Result, Ok, Err}

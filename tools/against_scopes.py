@@ -826,8 +826,6 @@ def main():
     import lexer
     import parser
     import scope
-    steal = scope.PRELUDE.index('let rec fiberq_steal_from')
-    scope.PRELUDE = scope.PRELUDE[:steal]
     texts = []
     for w in where.split(','):
         texts += [t for t in programs(w) if t not in texts]

@@ -462,8 +462,6 @@ def main():
     import scope
     import typing_d4
     modules = (lexer, parser, scope, typing_d4)
-    steal = scope.PRELUDE.index('let rec fiberq_steal_from')
-    scope.PRELUDE = scope.PRELUDE[:steal]
     cells_of_lists(scope)
     with_whole_search(typing_d4)
     old_parse = scope.parse

@@ -4,10 +4,9 @@
     tools/design_listing.py DESIGN WORDS..
 
 DESIGN is the folder of the design (driver.py, rv_asm.py, image_build.py); WORDS are those of the product: check, run or asm, a
-file and options. So that its listings are to be the same, byte by byte, the design is changed here in six ways:
+file and options. So that its listings are to be the same, byte by byte, the design is changed here in five ways:
 
 - it makes shorter constants than this assembler (crates/rv_asm/specs/Constant.antt), and takes a label's address by LUI and ADDI;
-- its prelude has two definitions more, those that steal from the queues of fibers;
 - what lives on is stored in the order of the numbers of slots, the closure last, where it takes the numbers as texts;
 - an item's pattern that is a name alone can't fail, so no failure follows it;
 - behind `raise` and its like, where nothing is reached, there is a frame if its parts made one;
@@ -122,10 +121,8 @@ def load(folder):
     import rv_asm
     import rv_places
     import rv_select
-    import scope
     rv_asm.const = constant
     image_build.assemble = assembler(rv_asm.assemble)
-    scope.PRELUDE = scope.PRELUDE.split('let rec fiberq_steal_from')[0]
     rv_places.Places.save = save
     rv_select.Select.v_letrec = group
     rv_select.Select.v_end = end
