@@ -1,8 +1,9 @@
 -- What becomes of a file that a command names: what an answer's status tells of the refusal.
-use Rattle.std.proofs.Common.{◌≡◌, ◌↔◌, ◌⊎◌, ℕ, List, Option, None, Some, Result, Ok, Err, IfSome, IfErr, IsErrOf, inl, inr, refl, ap, sym, ◌∙◌, arith}
+use Rattle.std.proofs.Common.{◌≡◌, ◌↔◌, ◌⊎◌, ℕ, List, Option, None, Some, Result, Ok, Err, IfSome, IfErr, IsErrOf, inl, inr, refl, ap, sym, subst, ◌∙◌, arith}
 use Rattle.fx_base.specs.Faults.{Rose}
-use Rattle.fx_base.specs.Told.{Told}
+use Rattle.fx_base.specs.Told.{Told, Holds}
 use Rattle.fx_base.specs.declared.refusal.Refusal.{Refusal}
+use Rattle.fx_base.specs.declared.settings.Written.{Written}
 use Rattle.fx_base.specs.declared.refusal.Refusal.TheVariants.{Usage, File, Syntax, Name, IllTyped, Limit, Memory}
 use Rattle.rv_model.specs.declared.image.Image.{Image}
 use Rattle.effects_top.specs.declared.outcome.Outcome.{Outcome}
@@ -11,7 +12,7 @@ use Rattle.effects_top.specs.Checked.{IsRead, IsCompileBreach, IsFileRefusal}
 use Rattle.image_build.specs.Building.{IsBuildRefusal}
 use Rattle.effects_top.specs.Source.{source_limit}
 use Rattle.effects_top.specs.Expression.{Expression}
-use Rattle.effects_top.specs.Form.{IsFormOf}
+use Rattle.effects_top.specs.Form.{IsFormOf, IsOfForm}
 use Rattle.effects_top.specs.Answers.{refusal_status}
 use Rattle.effects_top.specs.Outcome.{IsRefusedWith, Refused}
 use Rattle.effects_top.specs.Headline.{IsImageOf, Compiles}
@@ -78,6 +79,34 @@ file_refused o refusal name numbers told opened taken faults faults' err err' e 
         by : (i : Option Image) → i ≡ None → IfSome i P
         by None is_none = tt
         by (Some i) is_none = absurd (cc)
+
+abbrev ok : Image → Result Image Refusal
+ok image = Ok image
+
+-- the file's program was run
+pub file_ran : (o : Outcome) (image : Image) (w : Written) (name : List ℕ) (numbers : Numbers) (told : Told) (opened : Option (List ℕ)) (taken faults faults' : ℕ)
+    → o.image ≡ Some image → o.written ≡ Some w → (opened ≡ None) ⊎ (opened ≡ Some name)
+    → ((bytes : List ℕ) → told ≡ Holds bytes → IsRead bytes)
+    → ((bytes : List ℕ) → told ≡ Holds bytes → IsOfForm bytes → IsImageOf name bytes image)
+    → numbers_of image.settings ≡ numbers
+    → IsErrOf (ok image) source_limit ↔ ((opened ≡ Some name) × (taken ≡ 1048577))
+    → Compiles o name numbers told opened taken faults faults'
+file_ran o image w name numbers told opened taken faults faults' has wrote open_ read stands settings limit =
+    record {
+      opened = open_;
+      read = λ bytes holds. here (λ (i : Image). IsRead bytes) (read bytes holds);
+      stands = λ bytes holds form. here (IsImageOf name bytes) (stands bytes holds form);
+      settings = here (λ (i : Image). numbers_of i.settings ≡ numbers) settings;
+      usage = none 64;
+      file = λ with_. absurd (none 68 with_);
+      limited = λ named took. let e = limit.1 (named, took) in absurd (cc);
+    }
+  where
+    here : (P : Image → Type 0) → P image → IfSome o.image P
+    here P holds = subst (λ i. IfSome i P) (sym has) holds
+
+    none : (number : ℕ) → IsRefusedWith o number → ⊥
+    none number with_ = let e = sym wrote ∙ with_.written in cc
 
 -- a program that isn't of the form may not be built
 pub compile_breach : (bytes : List ℕ) (r : Result Image Refusal) → IsRead bytes

@@ -6,7 +6,7 @@ use Rattle.std.specs.List.{position_or_len, before_first, after_first}
 use Rattle.std.proofs.lemmas.Bool.{lt-ltb, le-ltb}
 use Rattle.std.proofs.lemmas.Str.Pattern.{IsSplitOnceResult, split_once_first}
 use Rattle.effects_top.specs.declared.words.Said.{Said as SaidWords}
-use Rattle.effects_top.specs.Words.{Numbers, Asked, Run, file_of, Said, seen_said, can_be_file, is_equals, is_joined, IsJoinedOf, with_file, with_option, with_joined, said_by}
+use Rattle.effects_top.specs.Words.{Numbers, Asked, Run, Demo, file_of, Said, seen_said, can_be_file, is_equals, is_joined, IsJoinedOf, with_file, with_option, with_joined, said_by}
 
 -- what a call said, where it said something
 pub says : (call : Option SaidWords) (after : SaidWords) (said : Option Said) → option_map seen_said call ≡ said → call ≡ Some after → said ≡ Some (seen_said after)
@@ -60,3 +60,7 @@ asked_file o mine file named is mine_names names = let e : Some file ≡ Some na
 -- the turns of a run
 pub run_turns_are : (o : Option Asked) (file file' : List ℕ) (numbers numbers' : Numbers) (turns turns' : ℕ) → Some (Run file numbers turns) ≡ o → o ≡ Some (Run file' numbers' turns') → turns ≡ turns'
 run_turns_are o file file' numbers numbers' turns turns' is asks = let e : Some (Run file numbers turns) ≡ Some (Run file' numbers' turns') = is ∙ asks in cc
+
+-- the number of a made program that is run
+pub demo_number_is : (o : Option Asked) (number number' : ℕ) → Some (Demo number) ≡ o → o ≡ Some (Demo number') → number ≡ number'
+demo_number_is o number number' is asks = let e : Some (Demo number) ≡ Some (Demo number') = is ∙ asks in cc

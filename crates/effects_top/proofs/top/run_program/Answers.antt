@@ -3,7 +3,7 @@ use Rattle.rv_model.specs.declared.image.Image.{Image}
 use Rattle.rv_model.specs.declared.report.Report.{Report}
 use Rattle.effects_top.specs.Headline.{IsImageOf, Shows}
 use Rattle.effects_top.proofs.Reporting.{shown}
-use Rattle.effects_top.proofs.Refusing.{file_refused}
+use Rattle.effects_top.proofs.Refusing.{file_refused, file_ran}
 use Rattle.effects_top.proofs.top.run_program.Goals as goal
 
 pub returns-in-Err-clause-compiles : goal.returns-in-Err-clause-compiles
@@ -19,3 +19,7 @@ returns-in-Ok-run_image-clause-shows g c = λ bytes told form i r image report.
     record { expression = stands.expression; form = stands.form; shows = λ at. shown _ c.in-Ok.image c.args.turns.count _ (stands.stands at) c.in-Ok-run_image.ensures.run } in
     subst (λ (x : Image). Shows c.args.file.now bytes x r) same_image
     (subst (λ (x : Report). Shows c.args.file.now bytes c.in-Ok.image x) same_report shows)
+
+pub returns-in-Ok-run_image-clause-compiles : goal.returns-in-Ok-run_image-clause-compiles
+returns-in-Ok-run_image-clause-compiles g c =
+    file_ran _ c.in-Ok.image c.in-Ok-run_image.written _ _ _ _ _ _ _ c.ran.ensures.image c.ran.ensures.written c.in-Ok.ensures.opened c.in-Ok.ensures.read c.in-Ok.ensures.stands c.in-Ok.ensures.settings c.in-Ok.ensures.limit
