@@ -23,31 +23,40 @@ def begin(product, folder, seconds):
     PRODUCT, DRIVER, SECONDS = product, design_listing.load(folder), seconds
 
 
-def place(image, line):
-    """Where a line of the listing stands, by the design's labels."""
+def place(image, pc):
+    """Where an instruction stands, by the design's labels."""
+    labels = [(at, name) for name, at in image.places.items() if at <= pc and not name.startswith('.')]
+    at, name = max(labels, default=(0, 'the beginning'))
+    return 'at %08x, %d instructions behind %s' % (pc, (pc - at) // 4, name)
+
+
+def place_of_line(image, line):
+    """Where a line of the listing stands."""
     fields = line.split()
     if len(fields) < 3 or not fields[0].startswith('0'):
         return 'in the head or the start words'
-    pc = int(fields[0], 16)
-    labels = [(at, name) for name, at in image.places.items() if at <= pc and not name.startswith('.')]
-    at, name = max(labels, default=(0, 'the beginning'))
-    return 'at %s, %d instructions behind %s' % (fields[0], (pc - at) // 4, name)
+    return place(image, int(fields[0], 16))
 
 
 def first_difference(image, ours, theirs):
     lines = itertools.zip_longest(ours.decode().split('\n'), theirs.decode().split('\n'), fillvalue='')
     number, (a, b) = next((n, pair) for n, pair in enumerate(lines, 1) if pair[0] != pair[1])
-    return 'line %d, %s:\n    here       %s\n    the design %s' % (number, place(image, b or a), a, b)
+    return 'line %d, %s:\n    here       %s\n    the design %s' % (number, place_of_line(image, b or a), a, b)
 
 
-def compare(case):
-    """Nothing, or what differs."""
+def image_of(case):
+    """The design's image, or None where the file is refused, and what differs, or None."""
     options = program_cases.options(case.settings)
     status, out, err = program_cases.answer(PRODUCT, case, 'asm', options, SECONDS)
     wanted, listing, line, image, _ = DRIVER.execute(['asm', case.file] + options, {case.file: case.text})
     if (status, err) != (wanted, line):
-        return 'status %s and %r, not %s and %r' % (status, err, wanted, line)
-    return None if out == listing else first_difference(image, out, listing)
+        return image, 'status %s and %r, not %s and %r' % (status, err, wanted, line)
+    return image, None if out == listing else first_difference(image, out, listing)
+
+
+def compare(case):
+    """What differs, or None."""
+    return image_of(case)[1]
 
 
 def main():

@@ -18,10 +18,12 @@ EXAMPLES = os.path.join(os.path.dirname(os.path.abspath(__file__)), '..', 'examp
 
 
 class Case:
-    """A program: the file that it stands in, its text, and the settings that aren't the usual ones."""
+    """A program: the file that it stands in, its text, the settings that aren't the usual ones, and, where they are known, the
+    outputs of which its run has one, its status and the line on standard error."""
 
-    def __init__(self, name, file, text, settings=None, seed=0):
+    def __init__(self, name, file, text, settings=None, seed=0, answers=None):
         self.name, self.file, self.text, self.settings, self.seed = name, file, text, settings or {}, seed
+        self.answers = answers
 
 
 def options(settings):
@@ -62,6 +64,15 @@ def row_text(text):
     return text.encode('latin-1')
 
 
+def row_answers(row):
+    """What a worked row says of its run, if it still does: the outputs that may be, the status, and the line on standard error."""
+    outputs = row.get('stdout_any', [row.get('stdout')])
+    if row['words'][0] != 'run' or row['until'] is not None or outputs == [None] or row.get('stderr') is None:
+        return None
+    line = row_text(row['stderr'])
+    return [row_text(output) for output in outputs], row['status'], line + b'\n' if line else b''
+
+
 def of_rows(path):
     """A case for each worked row that compiles, checks or runs a file that it gives."""
     found = []
@@ -81,7 +92,8 @@ def of_rows(path):
                 names.append(word)
         settings.pop('turns', None)
         if len(names) == 1 and names[0] in row['files'] and set(settings) <= set(USUAL):
-            found.append(Case('row ' + row['name'], names[0], row_text(row['files'][names[0]]), settings))
+            text = row_text(row['files'][names[0]])
+            found.append(Case('row ' + row['name'], names[0], text, settings, answers=row_answers(row)))
     return found
 
 
@@ -132,8 +144,9 @@ def deep(work, *arguments):
     return value
 
 
-def arguments(text, *names):
-    """The words of a tool: its own ones, then files, rows and random programs."""
+def arguments(text, *names, numbers=()):
+    """The words of a tool: its own ones, then files, rows and random programs; numbers are further options, each with its usual
+    number and what it is."""
     parser = argparse.ArgumentParser(description=text, formatter_class=argparse.RawDescriptionHelpFormatter)
     for name in names:
         parser.add_argument(name.lower(), metavar=name)
@@ -143,6 +156,8 @@ def arguments(text, *names):
     parser.add_argument('--count', type=int, default=0, help='how many random programs (0)')
     parser.add_argument('--jobs', type=int, default=3, help='how many run at once (3)')
     parser.add_argument('--seconds', type=int, default=60, help='how long one run may take (60)')
+    for name, number, meaning in numbers:
+        parser.add_argument(name, type=int, default=number, help='%s (%d)' % (meaning, number))
     parser.add_argument('--keep', default='differences', help='where programs that differ are kept (differences)')
     return parser.parse_args()
 
