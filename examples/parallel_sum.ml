@@ -1,5 +1,7 @@
-(* A sum over domains. Each half of a range is summed by a domain of its own, down to ranges that
-   are short or to where no further domain can start; there the range is summed in place.
+(* A sum over domains. The first half of a range is summed by a new domain and the second half by
+   this one, down to ranges that are short or to where no slot is free: there the range is summed in
+   place. Which domain sums what depends on the schedule, the sum doesn't: run it with any --domains
+   and any --turns.
    Prints: 5000050000 *)
 let rec sum_in_place low high total =
   if low > high then total else sum_in_place (low + 1) high (total + low)

@@ -1,6 +1,7 @@
-(* Work stealing. A task that performs Pause goes to the queue of the domain that runs it. Each
-   domain goes on with the oldest task of any queue, so that domains without tasks of their own take
-   those of others. Which domain runs which task depends on the schedule; the sum doesn't.
+(* Work stealing. A task that performs Pause goes to the queue of the domain that runs it. A domain
+   goes on with the oldest task of its own queue, or else of the next queue that has one, so that
+   domains without tasks of their own take those of others. Which domain runs which task depends on
+   the schedule, the sum doesn't: run it with any --domains and any --turns.
    Prints: 20 tasks, sum 8610 *)
 open Effect
 open Effect.Deep
@@ -24,7 +25,8 @@ let start n =
   | () -> Atomic.incr finished
   | effect Pause, k -> Fiberq.push k
 
-(* The oldest task of this domain's own queue, or else of the next one that has a task. *)
+(* The oldest task of this domain's own queue, or else of the next one that has a task. Fiberq.steal
+   does the same. *)
 let rec steal_from slot left =
   if left = 0 then None
   else
