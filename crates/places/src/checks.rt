@@ -31,16 +31,6 @@ enum Kept {
     },
 }
 
-impl Kept {
-    fn test(test: u32, register: u8, used: Registers) -> Kept {
-        Kept::Test {
-            test,
-            register,
-            used,
-        }
-    }
-}
-
 // A test on `t4` that is still to be made; the cells of the test area from `cell` on are free.
 #[derive(Drop, Clone, Copy)]
 enum Waiting {
@@ -134,7 +124,11 @@ impl<'a> Placer<'a> {
         used: Registers,
     ) -> Result<u32, AllocError> {
         let mut left = Vec::new(self.alloc);
-        left.push(Kept::test(test, register, used))?;
+        left.push(Kept::Test {
+            test,
+            register,
+            used,
+        })?;
         let mut bound: Vec<(u32, u8)> = Vec::new(self.alloc);
         self.open_checks()?;
         for _step in 0..u64::MAX {
@@ -163,7 +157,25 @@ impl<'a> Placer<'a> {
                 register,
                 used,
             } => self.kept_test(test, register, used, wanted, left, bound),
-            Kept::Part { part, base, used } => self.kept_part(part, base, used, left, bound),
+            Kept::Part { part, base, used } => {
+                let mut now = used.with(base);
+                for (_, register) in bound.iter() {
+                    now = now.with(*register);
+                }
+                let rd = now.first_free().ok_or(AllocError)?;
+                self.put_check(Check::Part {
+                    rd,
+                    base,
+                    index: part.index,
+                    mutable: part.mutable,
+                })?;
+                left.push(Kept::Test {
+                    test: part.test,
+                    register: rd,
+                    used: now.with(rd),
+                })?;
+                Ok(())
+            }
             Kept::Right {
                 test,
                 right,
@@ -173,35 +185,15 @@ impl<'a> Placer<'a> {
                 self.end_block()?;
                 self.open_checks()?;
                 left.push(Kept::EndOr { test })?;
-                left.push(Kept::test(right, register, used))?;
+                left.push(Kept::Test {
+                    test: right,
+                    register,
+                    used,
+                })?;
                 Ok(())
             }
             Kept::EndOr { test } => self.end_or(test),
         }
-    }
-
-    // Reads a part of the value in `base` into a free register, where it is tested.
-    fn kept_part(
-        &mut self,
-        part: SlotPart,
-        base: u8,
-        used: Registers,
-        left: &mut Vec<Kept>,
-        bound: &[(u32, u8)],
-    ) -> Result<(), AllocError> {
-        let mut now = used.with(base);
-        for (_, register) in bound {
-            now = now.with(*register);
-        }
-        let rd = now.first_free().ok_or(AllocError)?;
-        self.put_check(Check::Part {
-            rd,
-            base,
-            index: part.index,
-            mutable: part.mutable,
-        })?;
-        left.push(Kept::test(part.test, rd, now.with(rd)))?;
-        Ok(())
     }
 
     // Both sides of an or-pattern are made.
@@ -211,7 +203,6 @@ impl<'a> Placer<'a> {
         self.put_check(Check::Or { test, left, right })
     }
 
-    // A test on a register: names, parts and two ways here, else one check.
     fn kept_test(
         &mut self,
         number: u32,
@@ -226,11 +217,25 @@ impl<'a> Placer<'a> {
             SlotTest::Bind(destination) => name_in(*destination, register, wanted, bound),
             SlotTest::Alias { destination, test } => {
                 name_in(*destination, register, wanted, bound)?;
-                left.push(Kept::test(*test, register, used))?;
+                left.push(Kept::Test {
+                    test: *test,
+                    register,
+                    used,
+                })?;
                 Ok(())
             }
             SlotTest::Parts(parts) => {
-                self.kept_parts(parts.as_slice(), register, used, wanted, left)
+                for part in parts.as_slice().iter().rev() {
+                    let is_trivial = self.test_facts(part.test)?.trivial;
+                    if !is_trivial && (part.mutable || self.matters(part.test, wanted)?) {
+                        left.push(Kept::Part {
+                            part: *part,
+                            base: register,
+                            used,
+                        })?;
+                    }
+                }
+                Ok(())
             }
             SlotTest::Or { left: first, right } => {
                 self.open_checks()?;
@@ -240,52 +245,78 @@ impl<'a> Placer<'a> {
                     register,
                     used,
                 })?;
-                left.push(Kept::test(*first, register, used))?;
+                left.push(Kept::Test {
+                    test: *first,
+                    register,
+                    used,
+                })?;
                 Ok(())
             }
-            other => match self.check_of(other, register)? {
-                Some(part) => self.part_later(part, register, used, wanted, left),
-                None => Ok(()),
-            },
-        }
-    }
-
-    // The parts of the value in the register that have to be looked at.
-    fn kept_parts(
-        &self,
-        parts: &[SlotPart],
-        register: u8,
-        used: Registers,
-        wanted: &SlotSet,
-        left: &mut Vec<Kept>,
-    ) -> Result<(), AllocError> {
-        for part in parts.iter().rev() {
-            if !self.test_facts(part.test)?.trivial {
-                self.part_later(*part, register, used, wanted, left)?;
+            other => {
+                let argument = self.check_of(other, register)?;
+                if let Some(part) = argument {
+                    if self.matters(part.test, wanted)? {
+                        left.push(Kept::Part {
+                            part,
+                            base: register,
+                            used,
+                        })?;
+                    }
+                }
+                Ok(())
             }
         }
-        Ok(())
     }
 
-    // Puts a part off, where its test matters.
-    fn part_later(
-        &self,
-        part: SlotPart,
-        base: u8,
-        used: Registers,
-        wanted: &SlotSet,
-        left: &mut Vec<Kept>,
-    ) -> Result<(), AllocError> {
-        if part.mutable || self.matters(part.test, wanted)? {
-            left.push(Kept::Part { part, base, used })?;
-        }
-        Ok(())
-    }
-
-    // Makes the check of a test on a word, a string or a block; the part that is tested behind it.
+    // The check of a test on a word, a string or a block, and the part that is tested behind it.
     fn check_of(&mut self, test: &SlotTest, register: u8) -> Result<Option<SlotPart>, AllocError> {
-        self.put_check(check_on(test, register)?)?;
-        Ok(part_behind(test))
+        match test {
+            SlotTest::Word(word) => {
+                self.put_check(Check::Word {
+                    register,
+                    word: *word,
+                })?;
+                Ok(None)
+            }
+            SlotTest::Text(text) => {
+                self.put_check(Check::Text {
+                    register,
+                    text: *text,
+                })?;
+                Ok(None)
+            }
+            SlotTest::Block {
+                header,
+                mixed,
+                argument,
+            } => {
+                self.put_check(Check::Header {
+                    register,
+                    header: *header,
+                    mixed: *mixed,
+                })?;
+                Ok(Some(SlotPart {
+                    index: 0,
+                    mutable: false,
+                    test: *argument,
+                }))
+            }
+            SlotTest::Exception {
+                constructor,
+                argument,
+            } => {
+                self.put_check(Check::Exception {
+                    register,
+                    constructor: *constructor,
+                })?;
+                Ok(argument.map(|test| SlotPart {
+                    index: 1,
+                    mutable: false,
+                    test,
+                }))
+            }
+            _ => Err(AllocError),
+        }
     }
 
     /// The checks of a test on `t4`, whose names go to their places. The cells of the test area from
@@ -362,24 +393,22 @@ impl<'a> Placer<'a> {
                 })?;
                 Ok(())
             }
-            other => match self.check_of(other, T4)? {
-                Some(part) => self.waiting_part(part, cell, left),
-                None => Ok(()),
-            },
+            other => {
+                if let Some(part) = self.check_of(other, T4)? {
+                    if !self.test_facts(part.test)?.trivial {
+                        left.push(Waiting::Test {
+                            test: part.test,
+                            cell,
+                        })?;
+                        left.push(Waiting::Read {
+                            index: part.index,
+                            mutable: false,
+                        })?;
+                    }
+                }
+                Ok(())
+            }
         }
-    }
-
-    // The part behind a check, where it has to be looked at.
-    fn waiting_part(
-        &self,
-        part: SlotPart,
-        cell: u32,
-        left: &mut Vec<Waiting>,
-    ) -> Result<(), AllocError> {
-        if !self.test_facts(part.test)?.trivial {
-            read_part(part, cell, left)?;
-        }
-        Ok(())
     }
 
     // The parts of a value that have to be looked at. The value waits while all but the last are.
@@ -400,65 +429,20 @@ impl<'a> Placer<'a> {
         }
         for (number, part) in looked.iter().enumerate().rev() {
             let is_last = number.saturating_add(1) == looked.len();
-            let free = cell.saturating_add(u32::from(!is_last));
-            read_part(*part, free, left)?;
+            left.push(Waiting::Test {
+                test: part.test,
+                cell: cell.saturating_add(u32::from(!is_last)),
+            })?;
+            left.push(Waiting::Read {
+                index: part.index,
+                mutable: part.mutable,
+            })?;
             if number > 0 {
                 left.push(Waiting::Resume { cell })?;
             }
         }
         Ok(())
     }
-}
-
-// The check of a test on a word, a string or a block.
-fn check_on(test: &SlotTest, register: u8) -> Result<Check, AllocError> {
-    match test {
-        SlotTest::Word(word) => Ok(Check::Word {
-            register,
-            word: *word,
-        }),
-        SlotTest::Text(text) => Ok(Check::Text {
-            register,
-            text: *text,
-        }),
-        SlotTest::Block { header, mixed, .. } => Ok(Check::Header {
-            register,
-            header: *header,
-            mixed: *mixed,
-        }),
-        SlotTest::Exception { constructor, .. } => Ok(Check::Exception {
-            register,
-            constructor: *constructor,
-        }),
-        _ => Err(AllocError),
-    }
-}
-
-// The argument of a block or of an exception, which is tested behind its check.
-fn part_behind(test: &SlotTest) -> Option<SlotPart> {
-    let (index, argument) = match test {
-        SlotTest::Block { argument, .. } => (0, Some(*argument)),
-        SlotTest::Exception { argument, .. } => (1, *argument),
-        _ => (0, None),
-    };
-    argument.map(|test| SlotPart {
-        index,
-        mutable: false,
-        test,
-    })
-}
-
-// Reads a part into `t4`, and tests it.
-fn read_part(part: SlotPart, cell: u32, left: &mut Vec<Waiting>) -> Result<(), AllocError> {
-    left.push(Waiting::Test {
-        test: part.test,
-        cell,
-    })?;
-    left.push(Waiting::Read {
-        index: part.index,
-        mutable: part.mutable,
-    })?;
-    Ok(())
 }
 
 // Whether a name is among those that are wanted.

@@ -4,9 +4,7 @@ use crate::keeping::keeps_frame;
 use crate::placer::{Placer, Wanted};
 use crate::state::State;
 use effect_meaning::Sequence;
-use low_terms::{
-    Definition, Flat, FunctionKind, Home, LowFunction, Room, SlotFunction, SlotSet, Source,
-};
+use low_terms::{Flat, FunctionKind, Home, LowFunction, Room, SlotFunction, SlotSet, Source};
 use rt_layout::registers::{A1, A2, T0};
 use std::alloc::AllocError;
 
@@ -133,39 +131,16 @@ impl<'a> Placer<'a> {
         number: u32,
         function: &'a SlotFunction,
     ) -> Result<LowFunction, AllocError> {
-        let (checks, total) = self.first_checks(&function.kind)?;
-        let (kind, keeps_frame) = self.placed_kind(number, function)?;
-        Ok(LowFunction {
-            kind,
+        let mut placed = LowFunction {
+            kind: FunctionKind::Head,
             slots: function.slots,
             closure: function.closure,
             head: function.head,
-            keeps_frame,
+            keeps_frame: false,
             place: function.place,
-            checks,
-            total,
-        })
-    }
-
-    // The checks of an effect clause's or an item's test, and whether every value passes.
-    fn first_checks(&mut self, kind: &FunctionKind) -> Result<(Option<u32>, bool), AllocError> {
-        match kind {
-            FunctionKind::Clause {
-                argument,
-                names,
-                ..
-            } => self.checks_of(*argument, *names),
-            FunctionKind::Item { test, .. } => self.checks_of(*test, 0),
-            _ => Ok((None, true)),
-        }
-    }
-
-    // What the code is for, with the block of its body, and whether a function keeps its frame.
-    fn placed_kind(
-        &mut self,
-        number: u32,
-        function: &SlotFunction,
-    ) -> Result<(FunctionKind, bool), AllocError> {
+            checks: None,
+            total: true,
+        };
         match &function.kind {
             FunctionKind::Function {
                 parameters,
@@ -173,66 +148,54 @@ impl<'a> Placer<'a> {
                 body,
             } => {
                 let (body, keeps) = self.function_body(number, *body, function.closure)?;
-                let kind = FunctionKind::Function {
+                placed.keeps_frame = keeps;
+                placed.kind = FunctionKind::Function {
                     parameters: *parameters,
                     kept: self.copied_lists(kept)?,
                     body,
                 };
-                Ok((kind, keeps))
             }
-            FunctionKind::Clause { .. } => Ok((self.placed_clause(number, function)?, false)),
+            FunctionKind::Clause {
+                effect,
+                argument,
+                names,
+                shallow,
+                next,
+                body,
+            } => {
+                let (checks, total) = self.checks_of(*argument, *names)?;
+                placed.checks = checks;
+                placed.total = total;
+                placed.kind = FunctionKind::Clause {
+                    effect: *effect,
+                    argument: *argument,
+                    names: *names,
+                    shallow: *shallow,
+                    next: *next,
+                    body: self.clause_code(number, *body, *names, function.closure)?,
+                };
+            }
             FunctionKind::Item { test, next, body } => {
-                let kind = FunctionKind::Item {
+                let (checks, total) = self.checks_of(*test, 0)?;
+                placed.checks = checks;
+                placed.total = total;
+                placed.kind = FunctionKind::Item {
                     test: *test,
                     next: *next,
                     body: self.item_code(number, *body)?,
                 };
-                Ok((kind, false))
             }
             FunctionKind::Definitions { functions, next } => {
-                let kind = FunctionKind::Definitions {
-                    functions: self.copied_definitions(functions)?,
+                let mut copied = Vec::new(self.alloc);
+                copied.extend_from_slice(functions.as_slice())?;
+                placed.kind = FunctionKind::Definitions {
+                    functions: Sequence::from_vec(copied),
                     next: *next,
                 };
-                Ok((kind, false))
             }
-            FunctionKind::Head => Ok((FunctionKind::Head, false)),
+            FunctionKind::Head => {}
         }
-    }
-
-    fn placed_clause(
-        &mut self,
-        number: u32,
-        function: &SlotFunction,
-    ) -> Result<FunctionKind, AllocError> {
-        let FunctionKind::Clause {
-            effect,
-            argument,
-            names,
-            shallow,
-            next,
-            body,
-        } = &function.kind
-        else {
-            return Err(AllocError);
-        };
-        Ok(FunctionKind::Clause {
-            effect: *effect,
-            argument: *argument,
-            names: *names,
-            shallow: *shallow,
-            next: *next,
-            body: self.clause_code(number, *body, *names, function.closure)?,
-        })
-    }
-
-    fn copied_definitions(
-        &self,
-        functions: &Sequence<Definition>,
-    ) -> Result<Sequence<Definition>, AllocError> {
-        let mut copied = Vec::new(self.alloc);
-        copied.extend_from_slice(functions.as_slice())?;
-        Ok(Sequence::from_vec(copied))
+        Ok(placed)
     }
 
     fn copied_lists(

@@ -146,18 +146,6 @@ impl<'a> Search<'a> {
                 self.push(*consequence, tail, framed)?;
                 self.push(*alternative, tail, framed)
             }
-            other => self.look_at_clauses(other, tail, framed),
-        }
-    }
-
-    // A match, or a term of another form.
-    fn look_at_clauses(
-        &mut self,
-        form: &SlotForm,
-        tail: bool,
-        framed: bool,
-    ) -> Result<(), AllocError> {
-        match form {
             SlotForm::Match { value, clauses, .. } => {
                 let clauses = clauses.as_slice();
                 let framed = framed || !self.is_flat(*value) || self.makes_frame(clauses);

@@ -66,13 +66,6 @@ impl Purpose {
             leaves: false,
         }
     }
-
-    /// These parts, and where they would best be.
-    pub fn take(&mut self, parts: &[u32], wanted: &[Option<u8>]) -> Result<(), AllocError> {
-        self.wanted.extend_from_slice(wanted)?;
-        self.parts.extend_from_slice(parts)?;
-        Ok(())
-    }
 }
 
 impl<'a> Placer<'a> {

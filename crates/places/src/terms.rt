@@ -233,22 +233,6 @@ impl<'a> Placer<'a> {
         Ok(Some(purpose))
     }
 
-    // Where the closure of a known function, if it has one, and its arguments are wanted.
-    fn known_registers(
-        &self,
-        function: u32,
-        closure: Option<Atom>,
-    ) -> Result<Vec<Option<u8>>, AllocError> {
-        let mut wanted = Vec::new(self.alloc);
-        if closure.is_some() {
-            wanted.push(Some(A1))?;
-        }
-        for register in &self.parameters(function)? {
-            wanted.push(Some(*register))?;
-        }
-        Ok(wanted)
-    }
-
     // What the parts of a form that calls are evaluated for.
     fn call_purpose(
         &self,
@@ -258,29 +242,47 @@ impl<'a> Placer<'a> {
     ) -> Result<Purpose, AllocError> {
         let mut purpose = Purpose::new(self.alloc, *live);
         purpose.leaves = !matches!(wanted, Wanted::Tail);
-        match &term.form {
-            SlotForm::Call(parts) => purpose.take(parts.as_slice(), &[Some(A1), Some(A0)])?,
+        let parts = match &term.form {
+            SlotForm::Call(parts) => {
+                purpose.wanted.extend_from_slice(&[Some(A1), Some(A0)])?;
+                parts
+            }
             SlotForm::Known {
                 function,
                 closure,
                 parts,
             } => {
                 purpose.last = *closure;
-                let wanted = self.known_registers(*function, *closure)?;
-                purpose.take(parts.as_slice(), &wanted)?;
+                if closure.is_some() {
+                    purpose.wanted.push(Some(A1))?;
+                }
+                for register in &self.parameters(*function)? {
+                    purpose.wanted.push(Some(*register))?;
+                }
+                parts
             }
             SlotForm::Routine { parts, .. } => {
-                purpose.take(parts.as_slice(), &[Some(A0), Some(A1), Some(A2)])?;
+                purpose
+                    .wanted
+                    .extend_from_slice(&[Some(A0), Some(A1), Some(A2)])?;
+                parts
             }
-            SlotForm::Perform { parts, .. } => purpose.take(parts.as_slice(), &[Some(A2)])?,
-            SlotForm::PerformValue(parts) => purpose.take(parts.as_slice(), &[Some(A0)])?,
+            SlotForm::Perform { parts, .. } => {
+                purpose.wanted.push(Some(A2))?;
+                parts
+            }
+            SlotForm::PerformValue(parts) => {
+                purpose.wanted.push(Some(A0))?;
+                parts
+            }
             SlotForm::Handle { parts, handler, .. } => {
                 let captures = self.captures_of(*handler)?.below(term.depth);
                 purpose.live = purpose.live.with(&captures);
-                purpose.take(parts.as_slice(), &[])?;
+                parts
             }
             _ => return Err(AllocError),
-        }
+        };
+        purpose.parts.extend_from_slice(parts.as_slice())?;
         Ok(purpose)
     }
 
