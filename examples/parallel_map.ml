@@ -5,9 +5,9 @@
    domain waits while there is a fiber that can go on. Which domain runs which fiber depends on the
    schedule, what is printed doesn't: run it with any --domains and any --turns.
    Prints: src: 26
-           mail: 1111
+           mail: 131
            home: secret is locked
-           1178 blocks read *)
+           198 blocks read *)
 open Effect
 open Effect.Deep
 
@@ -111,8 +111,7 @@ let rec size entry =
   | Folder entries -> List.fold_left (fun sum n -> sum + n) 1 (parallel_map size entries)
   | Locked name -> raise (Unreadable name)
 
-(* There are more letters than a queue holds. *)
-let letters = List.map (fun _ -> File 1) (range 1 1100)
+let letters = List.map (fun _ -> File 1) (range 1 120)
 
 let folders =
   [ ("src", Folder [File 12; Folder [File 3; File 3]; File 6]);
