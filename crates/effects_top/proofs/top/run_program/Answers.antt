@@ -1,6 +1,7 @@
-use Rattle.std.proofs.Common.{◌≡◌, subst}
+use Rattle.std.proofs.Common.{◌≡◌, ap, subst}
 use Rattle.rv_model.specs.declared.image.Image.{Image}
 use Rattle.rv_model.specs.declared.report.Report.{Report}
+use Rattle.effects_top.specs.Words.{numbers_of}
 use Rattle.effects_top.specs.Headline.{IsImageOf, Shows}
 use Rattle.effects_top.proofs.Reporting.{shown}
 use Rattle.effects_top.proofs.Refusing.{file_refused, file_ran}
@@ -22,4 +23,4 @@ returns-in-Ok-run_image-clause-shows g c = λ bytes told form i r image report.
 
 pub returns-in-Ok-run_image-clause-compiles : goal.returns-in-Ok-run_image-clause-compiles
 returns-in-Ok-run_image-clause-compiles g c =
-    file_ran _ c.in-Ok.image c.in-Ok-run_image.written _ _ _ _ _ _ _ c.ran.ensures.image c.ran.ensures.written c.in-Ok.ensures.opened c.in-Ok.ensures.read c.in-Ok.ensures.stands c.in-Ok.ensures.settings c.in-Ok.ensures.limit
+    file_ran _ c.in-Ok.image c.in-Ok-run_image.written _ _ _ _ _ _ _ c.ran.ensures.image c.ran.ensures.written c.in-Ok.ensures.opened c.in-Ok.ensures.read c.in-Ok.ensures.stands (ap numbers_of c.in-Ok.ensures.settings) c.in-Ok.ensures.limit
