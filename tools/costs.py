@@ -45,6 +45,9 @@ OPERATIONS = [
     ('reference read', 'ignore !cell'),
     ('reference written', 'cell := 1'),
     ('fetch_and_add', 'ignore (Atomic.fetch_and_add shared 1)'),
+    ('exchange', 'ignore (Atomic.exchange shared 1)'),
+    ('compare_and_set', 'ignore (Atomic.compare_and_set shared 0 0)'),
+    ('atomic get', 'ignore (Atomic.get shared)'),
     ('array read', 'ignore numbers.(1)'),
     ('try without an exception', 'try () with Stop -> ()'),
     ('raise and catch', 'try raise Stop with Stop -> ()'),
@@ -61,6 +64,8 @@ OPERATIONS = [
     ('print_char', "print_char 'a'"),
     ('print_int', 'print_int 7'),
     ('spawn and join', 'Domain.join (Domain.spawn (fun () -> ()))'),
+    ('pause and Fiberq push', 'match perform Step with () -> () | effect Step, k -> Fiberq.push k'),
+    ('Fiberq take, none there', 'ignore (Fiberq.take_from 0)'),
     ('Fiberq push and take', '(match perform Step with () -> () | effect Step, k -> Fiberq.push k); '
                              'ignore (Fiberq.take_from 0)'),
 ]
