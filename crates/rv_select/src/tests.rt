@@ -57,7 +57,7 @@ fn blocks(alloc: Global) -> Result<Vec<Block>, AllocError> {
     };
     let inside = Sequence::from_vec(Vec::from_array(alloc, [print, give, Low::Return])?);
     let outside = Sequence::from_vec(Vec::from_array(alloc, [seven, framed])?);
-    Vec::from_array(alloc, [Block::Low(inside), Block::Body(outside)])
+    Ok(Vec::from_array(alloc, [Block::Low(inside), Block::Body(outside)])?)
 }
 
 // let () = (print_int 7; print_newline 0), in a frame without slots.
