@@ -16,7 +16,7 @@ design of the compiler, which knows where the other implementation of the semant
 - is run by the product in turns of 1, 2, 3, 7, 50 and 1000 instructions: output, status and line must be those;
 - has the design's listing, and its image is run in 20 random interleavings, watched by tools/interleavings.py.
 
-Programs that the semantics doesn't finish in 200,000 steps are passed over. What is wrong is printed, and the program is kept. It
+Programs that are refused, or that the semantics doesn't finish in 200,000 steps, are passed over. What is wrong is printed, and the program is kept. It
 ends with status 1 where something is.
 """
 import os
@@ -271,17 +271,16 @@ def answers_of(case):
 
 def compare(case):
     found = interleavings.Found()
-    answers = answers_of(case)
+    image, different = against_design.image_of(case)
+    if different:
+        found.wrong.append(different)
+    answers = answers_of(case) if image and not different else None
     if answers is None:
-        found.counts['too long'] = 1
+        found.counts['passed over'] = 1
         return found
     if len(answers[0]) > 1:
         found.wrong.append('the semantics has the outputs %r' % answers[0])
     found.counts['status %d' % answers[1]] = 1
-    image, different = against_design.image_of(case)
-    if different:
-        found.wrong.append(different)
-        return found
     in_turns(case, answers, found)
     for number, mode in enumerate(interleavings.MODES):
         seeds = range(case.seed + number, case.seed + interleavings.RUNS, len(interleavings.MODES))
