@@ -9,8 +9,9 @@ Programs are those of the design, the files, and random ones, in which domains d
 The listing of each program must be the design's. Then all interleavings of its image are gone through, block by block (an access
 to a shared word and what follows of its hart up to the next), or with `--fine 1` with a choice before each access to memory: no
 hart is at fault, the log only grows, and the pairs of what is printed and of the end are just those that the semantics has over
-all its interleavings. Programs for which the semantics has too many states are passed over, and told. It ends with status 1 where
-something differs, or where an image has more states than N.
+all its interleavings. The product's runs in turns of 1, 3 and 10 instructions must be those of the design's simulator. Programs
+for which the semantics has too many states are passed over, and told. It ends with status 1 where something differs, or where an
+image has more states than N.
 """
 import ctypes
 import random
@@ -23,6 +24,7 @@ from program_cases import Case
 SETTINGS = {'heap': 16384, 'stack': 1024, 'out': 1024}
 ACCESSES = {'ld', 'sd', 'lbu', 'ecall'}
 MOST_ENDS = 256
+TURNS = [1, 3, 10]
 TOO_MANY = 'the semantics has too many states'
 BEHAVES = EXPLORE = None
 DOMAINS = STATES = FINE = 0
@@ -61,7 +63,8 @@ THEMES = [
     ['(Atomic.set held (Some (fun () -> {op})); 0)', '(match Atomic.exchange held None with None -> 1 | Some f -> f ())'],
     ['(print_string "x"; 0)', '(print_string "yz"; 0)', '(print_int {op}; 0)', '(if {op} = 2 then exit 3 else 0)'],
     ['other (fun () -> {op})', '(try other (fun () -> raise Exit) with Exit -> {op})'],
-    ['(if {op} = 1 then raise Exit else 0)', '(try {op} with Exit -> 9)', '(match c_try (fun () -> {op}) with None -> 8 | Some n -> n)'],
+    ['(if {op} = 1 then raise Exit else 0)', '(try {op} with Exit -> 9)',
+     '(match c_try (fun () -> {op}) with None -> 8 | Some n -> n)'],
 ]
 
 
@@ -87,8 +90,8 @@ def random_program(seed):
     before = rng.choice(['', 'ignore (hold ()); ', 'ignore (park 0); ', 'ignore (hold ()); ignore (park 1); '])
     after = rng.choice(['let z = (try Domain.join d with Exit -> 0) in print_int y; print_int z',
                         'print_int y; print_int (Domain.join d)'])
-    return HEAD + 'let job () = %s\nlet () =\n  %slet d = Domain.spawn job in\n  let y = %s in\n  %s\n' % (
-        sequence(rng, operations), before, sequence(rng, operations), after)
+    form = 'let job () = %s\nlet () =\n  %slet d = Domain.spawn job in\n  let y = %s in\n  %s\n'
+    return HEAD + form % (sequence(rng, operations), before, sequence(rng, operations), after)
 
 
 def begin(product, design, seconds, domains, states, fine):
@@ -100,9 +103,9 @@ def begin(product, design, seconds, domains, states, fine):
     BEHAVES, EXPLORE = test_behaves, test_explore
 
 
-def small_programs(design, domains):
+def small_programs(design):
     """The small programs of the design's tests."""
-    begin([], design, 0, domains, 0, 0)
+    begin([], design, 0, 0, 0, 0)
     texts = EXPLORE.PROGRAMS + EXPLORE.MORE
     return [Case('small program %d' % number, 'a.ml', text.encode()) for number, text in enumerate(texts)]
 
@@ -116,7 +119,8 @@ def of_semantics(case, domains):
 def of_image(image, states, fine=False):
     """All pairs of output and end of the image, what is wrong, if anything, and how many states there are."""
     if fine:
-        image.shared = {4 * number for number, instr in enumerate(image.code) if instr[0] in ACCESSES or instr[0].startswith('amo')}
+        image.shared = {4 * number for number, instr in enumerate(image.code)
+                        if instr[0] in ACCESSES or instr[0].startswith('amo')}
     run = against_design.DRIVER.sim.Run(image, owners=True)
     found, count = (EXPLORE.Outcome * MOST_ENDS)(), ctypes.c_int(0)
     seen, blocks = ctypes.c_uint64(0), ctypes.c_uint64(0)
@@ -128,6 +132,17 @@ def of_image(image, states, fine=False):
     return {EXPLORE.end_of(one) for one in found[:count.value]}, wrong, seen.value
 
 
+def in_turns(case):
+    """What differs in the product's runs in turns, or None."""
+    for turns in TURNS:
+        words = program_cases.options(dict(case.settings, turns=turns))
+        answer = program_cases.answer(against_design.PRODUCT, case, 'run', words, against_design.SECONDS)
+        wanted = against_design.DRIVER.execute(['run', case.file] + words, {case.file: case.text})[:3]
+        if answer != wanted:
+            return '--turns %d: %r, not %r' % (turns, answer, wanted)
+    return None
+
+
 def compare(case):
     """How many states and ends the image has, and what is wrong, or None."""
     image, different = against_design.image_of(case)
@@ -135,18 +150,16 @@ def compare(case):
         return 0, 0, different
     wanted, whole = of_semantics(case, DOMAINS)
     ends, wrong, states = of_image(image, STATES, FINE)
-    if not whole:
-        return states, len(ends), wrong or TOO_MANY
-    if ends != wanted:
+    if whole and ends != wanted:
         wrong = wrong or 'not of the semantics %r; missing %r' % (sorted(ends - wanted), sorted(wanted - ends))
-    return states, len(ends), wrong
+    return states, len(ends), wrong or in_turns(case) or (None if whole else TOO_MANY)
 
 
 def main():
     numbers = [('--domains', 2, 'how many domains'), ('--states', 20000000, 'states that a program may have'),
                ('--fine', 0, '1: a choice before each access to memory')]
     given = program_cases.arguments(__doc__, 'PRODUCT', 'DESIGN', numbers=numbers)
-    cases = small_programs(given.design, given.domains) + program_cases.of_files(given.files)
+    cases = small_programs(given.design) + program_cases.of_files(given.files)
     cases += [Case('random small program %d' % seed, 'a.ml', random_program(seed).encode(), seed=seed)
               for seed in range(given.seed, given.seed + given.count)]
     for case in cases:
