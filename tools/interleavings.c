@@ -3,8 +3,8 @@
 #include "sim.c"
 
 enum mode { EACH, BURSTS, SLOW, BLOCKS, STRETCHES, STALLS };
-enum reason { ENDED, BUDGET, DEADLOCK, FAULTY, STEPS_DONE, BREACHED };
-enum breach { NONE, NOT_OWN, TAKEN_TWICE, WITHOUT_LOCK, HOLDER_WAITS, CURSOR_BACK, LOG_CHANGED };
+enum reason { ENDED, BUDGET, DEADLOCK, STEPS_DONE = 4, BREACHED };     // the first three and STEPS_DONE as in sim.c
+enum breach { NONE, AT_FAULT, NOT_OWN, TAKEN_TWICE, WITHOUT_LOCK, HOLDER_WAITS, CURSOR_BACK, LOG_CHANGED };
 enum word { END_WORD = 1, LOCK = 5, CURSOR = 6, LOG = 144 };
 
 typedef struct {
@@ -13,7 +13,7 @@ typedef struct {
   uint8_t *taken;                   // for each word, whether the continuation there was taken
   uint64_t steps, takes, locks;     // instructions, continuations taken, times that the lock was taken
   uint64_t holder;                  // the hart that holds the lock, counted from 1, or 0
-  uint64_t breach, hart, pc, at;    // the first breach, or the fault: who, where, and the word
+  uint64_t breach, hart, pc, at;    // the first breach: who, where, and the word
 } watch;
 
 typedef struct { uint64_t state, left, slow, slow_left, asleep[64]; int now; } scheduler;
@@ -44,23 +44,27 @@ static void look_at_log(machine *m, watch *w, int i, uint64_t pc, uint64_t word,
   if (word >= LOG && (old ^ new) & printed_part(word, cursor)) found(w, LOG_CHANGED, i, pc, word);
 }
 
+// The word that the next instruction of a hart may change, or `size`.
+static uint64_t next_word(machine *m, hart *h) {
+  if ((h->pc & 3) || (h->pc >> 2) >= m->n) return m->size;
+  ins *c = &m->code[h->pc >> 2];
+  uint64_t at = 8 * m->size;
+  if (c->op == SD) at = h->x[c->rs1] + c->imm;
+  else if (c->op >= AADD && c->op <= ACAS) at = h->x[c->rs1];
+  return at >> 3 < m->size ? at >> 3 : m->size;
+}
+
 static int watched(machine *m, watch *w, int i) {
   hart *h = &m->h[i];
-  uint64_t pc = h->pc;
-  if ((pc & 3) || (pc >> 2) >= m->n) return FAULT;
-  ins *c = &m->code[pc >> 2];
-  uint64_t word = m->size;
-  if (c->op == SD) word = (h->x[c->rs1] + c->imm) >> 3;
-  else if (c->op >= AADD && c->op <= ACAS) word = h->x[c->rs1] >> 3;
-  uint64_t old = word < m->size ? m->mem[word] : 0, cursor = m->mem[CURSOR];
-  if (pc == w->taken_at) {
-    uint64_t continuation = h->x[10] >> 3;
-    if (continuation >= m->size) return FAULT;
+  uint64_t pc = h->pc, word = next_word(m, h), old = word < m->size ? m->mem[word] : 0, cursor = m->mem[CURSOR];
+  uint64_t continuation = h->x[10] >> 3;
+  if (pc == w->taken_at && continuation < m->size) {
     if (w->taken[continuation]) found(w, TAKEN_TWICE, i, pc, continuation);
     w->taken[continuation] = 1;
     w->takes++;
   }
   int r = checked(m, i);
+  if (r == FAULT) found(w, AT_FAULT, i, pc, 0);
   if (r == WAITS && w->holder == (uint64_t)i + 1) found(w, HOLDER_WAITS, i, pc, h->x[10] >> 3);
   if (m->bad_hart) found(w, NOT_OWN, m->bad_hart - 1, m->bad_pc, m->bad_at >> 3);
   int of_log = (word >= END_WORD && word <= CURSOR) || (word >= LOG && word < w->log_end);
@@ -116,10 +120,8 @@ static int interleave(machine *m, watch *w, scheduler *s) {
     if (m->mem[END_WORD]) return ENDED;
     int i = next_hart(m, w, s);
     if (m->h[i].retired == m->budget) { w->hart = i; return BUDGET; }
-    uint64_t pc = m->h[i].pc;
     int r = watched(m, w, i);
     if (w->breach) return BREACHED;
-    if (r == FAULT) { w->hart = i; w->pc = pc; return FAULTY; }
     if (r == WENT) { w->steps++; continue; }
     s->left = 0;
     int any = 0;
@@ -136,9 +138,7 @@ int run_watched(machine *m, watch *w) {
   s.state = w->seed;
   int reason = interleave(m, w, &s);
   for (int k = 0; reason == ENDED && k < 1000; k++) {
-    int i = below(&s, m->H);
-    uint64_t pc = m->h[i].pc;
-    if (watched(m, w, i) == FAULT) { w->hart = i; w->pc = pc; reason = FAULTY; }
+    watched(m, w, below(&s, m->H));
     if (w->breach) reason = BREACHED;
   }
   return reason;

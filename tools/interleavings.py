@@ -37,14 +37,16 @@ import program_cases
 TOOLS = os.path.dirname(os.path.abspath(__file__))
 EXAMPLES = os.path.join(TOOLS, '..', 'examples')
 MODES = ['each', 'bursts', 'slow', 'blocks', 'stretches', 'stalls']
-ENDED, BUDGET, DEADLOCK, FAULTY, STEPS_DONE, BREACHED = range(6)
-BREACHES = [None, ('owner', 'has no order with another hart for'), ('continuation', 'takes once more the continuation in'),
-            ('lock', 'writes without the lock'), ('lock', 'waits, with the lock, for'), ('log', 'sets back the cursor in'),
-            ('log', 'changes a printed byte in')]
+DEADLOCK, BREACHED = 2, 5
+BREACHES = [None, ('fault', 'is at fault'), ('owner', 'has no order with another hart for word {word}'),
+            ('continuation', 'takes once more the continuation in word {word}'), ('lock', 'writes word {word} without the lock'),
+            ('lock', 'waits, with the lock, for word {word}'), ('log', 'sets back the cursor'),
+            ('log', 'changes a printed byte in word {word}')]
 KINDS = ['fault', 'owner', 'continuation', 'lock', 'log', 'wait', 'answer']
-OF_FORM = re.compile(rb'\s*let\s*\(\s*\)\s*=\s*print_int\b[\s\da-fA-FxXoO_()+*-]*')
+OF_FORM = re.compile(rb'\s*let\s*\(\s*\)\s*=\s*print_int\b(\s|[()+*-]|\d\w*)*')
 SIMULATOR = WATCHER = None
 MEMORY = ctypes.CDLL(None)
+MEMORY.calloc.restype = ctypes.c_void_p
 RUNS = STEPS = 0
 
 
@@ -68,7 +70,6 @@ def begin(product, design, seconds, library, runs=0, steps=0):
     RUNS, STEPS = runs, steps
     against_design.begin(product, design, seconds)
     SIMULATOR, WATCHER = against_design.DRIVER.sim, ctypes.CDLL(library)
-    MEMORY.calloc.restype = ctypes.c_void_p
 
 
 class Run:
@@ -105,17 +106,16 @@ class Run:
         return ctypes.cast(self.blocks[-1], ctypes.POINTER(ctypes.c_uint64))
 
     def read(self, reason):
-        self.who = ctypes.c_int(self.watch.hart)
-        ended = {FAULTY: ENDED, BREACHED: ENDED}.get(reason, reason)
-        SIMULATOR.Run.result(self, ended)
-        place = against_design.place(self.image, self.watch.pc)
         self.wrong = None
-        if reason == FAULTY:
-            self.wrong = 'fault', 'hart %d is at fault %s' % (self.watch.hart, place)
-        elif reason == BREACHED:
+        if reason == BREACHED:
             kind, text = BREACHES[self.watch.breach]
-            self.wrong = kind, 'hart %d, %s, %s word %d' % (self.watch.hart, place, text, self.watch.at)
-        elif reason == DEADLOCK:
+            place = against_design.place(self.image, self.watch.pc)
+            self.end = kind,
+            self.wrong = kind, 'hart %d, %s, %s' % (self.watch.hart, place, text.format(word=self.watch.at))
+            return
+        self.who = ctypes.c_int(self.watch.hart)
+        SIMULATOR.Run.result(self, reason)
+        if reason == DEADLOCK:
             needless = self.needless_wait()
             self.wrong = needless and ('wait', 'all harts wait, and ' + needless)
 
@@ -207,7 +207,8 @@ def report(found, given, cases):
         counts += one.counts
         wrong += bool(one.wrong)
         if one.wrong:
-            print('%s, kept as %s:\n    %s' % (case.name, program_cases.keep(given.keep, case), '\n    '.join(one.wrong)), flush=True)
+            kept = program_cases.keep(given.keep, case)
+            print('%s, kept as %s:\n    %s' % (case.name, kept, '\n    '.join(one.wrong)), flush=True)
     print(', '.join('%s %d' % count for count in sorted(counts.items())))
     print('%d programs, %d with something wrong' % (len(cases), wrong))
     return wrong

@@ -65,7 +65,7 @@ def row_text(text):
 
 
 def row_answers(row):
-    """What a worked row says of its run, if it still does: the outputs that may be, the status, and the line on standard error."""
+    """What a worked row says of its run, if it still does: the outputs that may be, the status, the line on standard error."""
     outputs = row.get('stdout_any', [row.get('stdout')])
     if row['words'][0] != 'run' or row['until'] is not None or outputs == [None] or row.get('stderr') is None:
         return None
