@@ -6,8 +6,9 @@
 PRODUCT is the program, as crates/effects_cli/out/effects_cli, or a command in quotes; DESIGN is the folder of the design, which
 tools/design_listing.py gives the constants of this repository's assembler. It wants gcc, for the design's own simulator.
 Compared are `asm FILE` of the files, of the worked rows with their settings, and of random programs (tools/random_programs.py):
-the whole listing, or the status and the line on standard error. It ends with status 1 where something differs, and then prints
-the first line that differs, with the label of the design that its address stands behind.
+the whole listing, or the status and the line on standard error. Passed over are programs of the form `let () = print_int A`, which
+have a compiler of their own. It ends with status 1 where something differs, and then prints the first line that differs, with the
+label of the design that its address stands behind.
 """
 import itertools
 import sys
@@ -61,7 +62,8 @@ def compare(case):
 
 def main():
     given = program_cases.arguments(__doc__, 'PRODUCT', 'DESIGN')
-    cases = program_cases.cases(given)
+    every = program_cases.cases(given)
+    cases = [case for case in every if not program_cases.is_of_form(case.text)]
     settings = (program_cases.command(given.product), given.design, given.seconds)
     same = different = 0
     for case, found in zip(cases, program_cases.in_pool(compare, (given.jobs, cases), begin, settings)):
@@ -69,7 +71,7 @@ def main():
         different += found is not None
         if found is not None:
             print('%s: %s (kept as %s)' % (case.name, found, program_cases.keep(given.keep, case)), flush=True)
-    print('%d the same, %d different' % (same, different))
+    print('%d the same, %d different; %d have the other compiler' % (same, different, len(every) - len(cases)))
     sys.exit(1 if different else 0)
 
 

@@ -26,7 +26,6 @@ What is wrong is printed with mode and seed, and the program is kept. It ends wi
 import collections
 import ctypes
 import os
-import re
 import subprocess
 import sys
 import tempfile
@@ -35,7 +34,6 @@ import against_design
 import program_cases
 
 TOOLS = os.path.dirname(os.path.abspath(__file__))
-EXAMPLES = os.path.join(TOOLS, '..', 'examples')
 MODES = ['each', 'bursts', 'slow', 'blocks', 'stretches', 'stalls']
 DEADLOCK, BREACHED = 2, 5
 BREACHES = [None, ('fault', 'is at fault'), ('owner', 'has no order with another hart for word {word}'),
@@ -43,7 +41,6 @@ BREACHES = [None, ('fault', 'is at fault'), ('owner', 'has no order with another
             ('lock', 'waits, with the lock, for word {word}'), ('log', 'sets back the cursor'),
             ('log', 'changes a printed byte in word {word}')]
 KINDS = ['fault', 'owner', 'continuation', 'lock', 'log', 'wait', 'answer']
-OF_FORM = re.compile(rb'\s*let\s*\(\s*\)\s*=\s*print_int\b(\s|[()+*-]|\d\w*)*')
 SIMULATOR = WATCHER = None
 MEMORY = ctypes.CDLL(None)
 MEMORY.calloc.restype = ctypes.c_void_p
@@ -185,7 +182,7 @@ def in_mode(image, answers, mode, seeds, most, whole, found):
 
 def compare(case):
     found = Found()
-    if OF_FORM.fullmatch(re.sub(rb'\(\*.*?\*\)', b' ', case.text, flags=re.S)):
+    if program_cases.is_of_form(case.text):
         found.counts['compiled apart'] = 1
         return found
     image, different = against_design.image_of(case)
@@ -217,7 +214,7 @@ def report(found, given, cases):
 def main():
     numbers = [('--runs', 10, 'runs of a program in each mode'), ('--steps', 1000000, 'instructions that a run may have')]
     given = program_cases.arguments(__doc__, 'PRODUCT', 'DESIGN', numbers=numbers)
-    cases = program_cases.of_files([EXAMPLES]) + program_cases.cases(given)
+    cases = program_cases.of_files([program_cases.EXAMPLES]) + program_cases.cases(given)
     with tempfile.TemporaryDirectory() as folder:
         settings = (program_cases.command(given.product), given.design, given.seconds, built(given.design, folder),
                     given.runs, given.steps)

@@ -14,6 +14,7 @@ import random_programs
 
 USUAL = {'heap': 1048576, 'stack': 131072, 'out': 1048576, 'budget': 1073741824, 'domains': 4}
 NO_END = 'no end in time'
+OF_FORM = re.compile(rb'\s*let\s*\(\s*\)\s*=\s*print_int\b(\s|[()+*-]|\d\w*)*')
 EXAMPLES = os.path.join(os.path.dirname(os.path.abspath(__file__)), '..', 'examples')
 
 
@@ -50,6 +51,11 @@ def told_by_head(text):
 
 def printed_lines(printed):
     return [line.strip() for line in printed.decode('latin-1').rstrip('\n').split('\n')]
+
+
+def is_of_form(text):
+    """Whether a program is of the form `let () = print_int A`, which has a compiler of its own."""
+    return OF_FORM.fullmatch(re.sub(rb'\(\*.*?\*\)', b' ', text, flags=re.S)) is not None
 
 
 def of_seeds(seed, count, for_ocaml=False):
