@@ -47,7 +47,7 @@ def compare(case):
     """The kind of the case and what is to be told of it."""
     status, out, err = program_cases.answer(PRODUCT, case, 'run', (), SECONDS)
     theirs, printed, said = program_cases.answer(OCAML, case, 'run', (), SECONDS)
-    refused = status in (63, 65, 66, 67)
+    refused = status in (65, 66, 67)
     if theirs == 65 and re.search(rb'Error:|>> Fatal error', said):
         return 'refused by both' if refused else 'refused by OCaml', message(said)
     if refused:
