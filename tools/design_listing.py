@@ -4,9 +4,10 @@
     tools/design_listing.py DESIGN WORDS..
 
 DESIGN is the folder of the design (driver.py, rv_asm.py, image_build.py); WORDS are those of the product: check, run or asm, a
-file and options. So that its listings are to be the same, byte by byte, the design is changed here in five ways:
+file and options. So that its listings are to be the same, byte by byte, the design is changed here in six ways:
 
 - it makes shorter constants than this assembler (crates/rv_asm/specs/Constant.antt), and takes a label's address by LUI and ADDI;
+- its code may end with a label, behind which an instruction stands here;
 - what lives on is stored in the order of the numbers of slots, the closure last, where it takes the numbers as texts;
 - an item's pattern that is a name alone can't fail, so no failure follows it;
 - behind `raise` and its like, where nothing is reached, there is a frame if its parts made one;
@@ -49,6 +50,8 @@ def assembler(assemble):
     """The design's assembler, with ADDIW where the address of a label is taken."""
     def assemble_as_here(lines):
         marked = [('codeof', Address(line[1]), line[2]) if line[0] == 'codeof' else line for line in lines]
+        if [line for line in lines if line[0] not in ('note', 'shared')][-1][0] == 'label':
+            marked.append(('plain', 'addi', 0, 0, 0, 0))
         code, places = assemble(marked)
         return [('addiw',) + instr[1:] if instr[0] == 'addi' and isinstance(instr[1], Address) else instr
                 for instr in code], places

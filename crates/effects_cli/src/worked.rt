@@ -30,6 +30,20 @@ pub const WORKED: &[Worked] = &[
     },
     Worked {
         options: &[],
+        text: "let () = let (x, y) = (1, 2) in print_int (x + y)\n",
+        status: 0,
+        printed: "3",
+        line: "",
+    },
+    Worked {
+        options: &[],
+        text: "let () = match 1, 2 with x, _ -> print_int x\n",
+        status: 0,
+        printed: "1",
+        line: "",
+    },
+    Worked {
+        options: &[],
         text: "let () = raise Not_found\n",
         status: 2,
         printed: "",

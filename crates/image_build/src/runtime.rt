@@ -6,6 +6,8 @@ use crate::regions::Regions;
 use crate::start::put_start;
 use fx_base::{Refusal, Settings};
 use low_terms::LowProgram;
+use rt_layout::registers::ZERO;
+use rt_layout::{assembly, put};
 use rv_model::Line;
 use rv_select::select;
 use std::alloc::{AllocError, Global};
@@ -32,6 +34,14 @@ fn append_runtime(alloc: Global, lines: &mut Vec<Line>) -> Result<(), Refusal>
     Ok(())
 }
 
+// A label names an instruction, so one stands behind a last label. It is never reached.
+fn close(lines: &mut Vec<Line>) -> Result<(), AllocError> {
+    if let Some(Line::Label(_)) = lines.last() {
+        put(lines, &assembly![mv ZERO, ZERO;])?;
+    }
+    Ok(())
+}
+
 /// The code at the start, the routines, and the compiled program.
 pub fn all_lines(
     alloc: Global,
@@ -45,5 +55,6 @@ pub fn all_lines(
     put_start(&mut lines, settings, regions)?;
     append_runtime(alloc, &mut lines)?;
     append(&mut lines, select(alloc, low)?)?;
+    close(&mut lines)?;
     Ok(lines)
 }
