@@ -8,13 +8,14 @@ that in a root folder of a system, which is entered by chroot. Each program of t
 line on standard error behind it, or that the program is refused, must be what the page says. It ends with status 1 where
 something differs.
 """
-import argparse
 import os
 import re
 import shutil
 import subprocess
 import sys
 import tempfile
+
+import command_words
 
 TOP = os.path.join(os.path.dirname(os.path.abspath(__file__)), '..')
 PAGE = os.path.join(TOP, 'docs', 'BESIDE_OCAML.md')
@@ -46,7 +47,7 @@ def by_ocaml(enter, inside):
 
 
 def main():
-    parser = argparse.ArgumentParser(description=__doc__, formatter_class=argparse.RawDescriptionHelpFormatter)
+    parser = command_words.Parser(__doc__)
     parser.add_argument('product', nargs='?', default=BUILT)
     parser.add_argument('--ocaml', metavar='ROOT')
     given = parser.parse_args()

@@ -9,6 +9,8 @@ the stages that its crates stand on. FILE is another place for the picture.
 import os
 import sys
 
+import command_words
+
 TOP = os.path.join(os.path.dirname(os.path.abspath(__file__)), '..')
 STAGES = [
     ('outside world', 'fx_base'),
@@ -98,8 +100,7 @@ def picture(stands_on):
 
 
 def main():
-    if '--help' in sys.argv[1:] or len(sys.argv) > 2:
-        sys.exit(print(__doc__.strip()))
+    command_words.begin(__doc__)
     path = sys.argv[1] if len(sys.argv) == 2 else os.path.join(TOP, 'docs', 'pipeline.svg')
     with open(path, 'w') as file:
         file.write(picture(crates()))
