@@ -88,7 +88,7 @@ def picture(stands_on):
         needed = {places[lower] for name in present for lower in stands_on[name] if lower in places}
         below = folded([other for other, _ in STAGES[1:] if other in needed and other != title])
         rows = rows_of(present)
-        rows += [[]] * (max(0, (32 + 11 * len(below) - 16 + ROW - 1) // ROW - len(rows)) if below else 0)
+        rows += [[]] * (max(0, (28 + 11 * len(below) + ROW - 1) // ROW - len(rows)) if below else 0)
         more, height = stage(title, colour, y, rows, below)
         parts += more
         y += height
