@@ -135,8 +135,11 @@ def tables(rows):
 
 
 def main():
+    if '--help' in sys.argv[1:]:
+        print(__doc__.strip())
+        return
     if len(sys.argv) < 4:
-        sys.exit(__doc__)
+        sys.exit('measure.py: missing: PRODUCT, RVRUN, RVFAST (bench/run.sh builds and names them; --help says more)')
     product, runners = os.path.abspath(sys.argv[1]), [os.path.abspath(path) for path in sys.argv[2:4]]
     ocaml = Ocaml(sys.argv[4] if len(sys.argv) > 4 else None)
     try:

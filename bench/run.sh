@@ -5,6 +5,7 @@
 #                            without it, those on the PATH
 #
 # It wants gcc and the toolchain, and a quiet machine. It isn't part of the gate.
+if [ "${1:-}" = --help ]; then sed '1d; /^#/!Q; s/^# \{0,1\}//' "$0"; exit 0; fi
 set -eu
 top=$(cd "$(dirname "$0")/.." && pwd)
 work=$(mktemp -d)

@@ -1,6 +1,7 @@
 #!/usr/bin/env bash
 # Runs one loop of 200,000,000 instructions by the proved runner and by bench/rvrun.c, and prints the
 # least processor time of five runs of each, and their ratio. It wants gcc and the toolchain; it is no part of the gate.
+if [ "${1:-}" = --help ]; then sed '1d; /^#/!Q; s/^# \{0,1\}//' "$0"; exit 0; fi
 set -eu
 top=$(cd "$(dirname "$0")/.." && pwd)
 crate=$top/crates/runner_bench

@@ -8,11 +8,11 @@ or raises `Fault` with `line` and `col`. TEXTS are files whose bytes are mutated
 under each key `files` are. The kind, the bytes and the place of each token, or the place of the first fault,
 must be equal.
 """
-import argparse
 import json
 import random
 import sys
 
+import command_words
 from lexer_program import Program, fixed_kinds
 
 NAMED = {'lower': 'LowerName', 'upper': 'UpperName', 'tvar': 'TypeVariable', 'int': 'Integer', 'char': 'Character', 'string': 'Text'}
@@ -96,7 +96,7 @@ def reading(lexer, kinds, text):
 
 
 def main():
-    words = argparse.ArgumentParser()
+    words = command_words.Parser(__doc__)
     words.add_argument('folder')
     words.add_argument('texts', nargs='+')
     words.add_argument('--count', type=int, default=4000)

@@ -20,8 +20,11 @@ import subprocess
 import sys
 import threading
 
+import command_words
+
 sys.setrecursionlimit(10 ** 6)
 threading.stack_size(256 * 1024 * 1024)
+command_words.begin(__doc__, 'ORACLE', 'WORKSPACE', 'PROGRAMS')
 ORACLE, WORKSPACE, PROGRAMS = sys.argv[1:4]
 SEED = int(sys.argv[4]) if len(sys.argv) > 4 else 1
 COUNT = int(sys.argv[5]) if len(sys.argv) > 5 else 200

@@ -9,6 +9,8 @@ import subprocess
 import sys
 import tempfile
 
+import command_words
+
 SAMPLES = os.path.join(os.path.dirname(os.path.abspath(__file__)), '..', 'crates', 'rv_asm', 'src', 'samples.rt')
 LINE = re.compile(r'^([0-9a-f]{8}) ([0-9a-f]{8}) (.+)$', re.MULTILINE)
 PRINTED = re.compile(r'^\s*([0-9a-f]+):\s+([0-9a-f]{8})\s+(\S+)(?:\s+(\S+))?')
@@ -47,6 +49,7 @@ def as_objdump(pc, text):
 
 
 def main():
+    command_words.begin(__doc__)
     with open(sys.argv[1] if len(sys.argv) > 1 else SAMPLES, encoding='utf-8') as file:
         lines = [(int(pc, 16), int(word, 16), text) for pc, word, text in LINE.findall(file.read())]
     names, unknown, spelt, wrong = set(), set(), {}, 0

@@ -1,6 +1,7 @@
 #!/usr/bin/env bash
 # Compares the listing of instructions of all 48 operations with what GNU objdump prints for their words.
 # It isn't part of the gate.
+if [ "${1:-}" = --help ]; then sed '1d; /^#/!Q; s/^# \{0,1\}//' "$0"; exit 0; fi
 set -u
 cd "$(dirname "$0")" || exit 1
 for tool in riscv64-linux-gnu-objdump python3; do

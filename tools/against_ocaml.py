@@ -20,6 +20,7 @@ import sys
 import tempfile
 
 sys.path.insert(0, os.path.dirname(os.path.abspath(__file__)))
+import command_words
 from against_scopes import programs
 from against_types import TEXTS, mutate
 
@@ -45,6 +46,7 @@ def reason(text):
 
 
 def main():
+    command_words.begin(__doc__, 'PROGRAM', 'ORACLE', 'PROGRAMS')
     if shutil.which('ocamlc') is None:
         raise SystemExit('ocamlc is missing: nothing was compared')
     program, oracle, where = os.path.abspath(sys.argv[1]), sys.argv[2], sys.argv[3]

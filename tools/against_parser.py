@@ -21,7 +21,6 @@ behind them, what it answers is put right in these points before it is compared:
 The program that runs ml_parser is made by parser_program.py, in a temporary folder, and is built without proof.
 The status is 0 where nothing but the two known points differs.
 """
-import argparse
 import collections
 import glob
 import json
@@ -31,6 +30,7 @@ import re
 import sys
 import threading
 
+import command_words
 from parser_program import ANSWERS, ROOT, Program
 
 sys.setrecursionlimit(1000000)
@@ -659,7 +659,7 @@ def compare(folder, seed, count):
 
 
 def main():
-    words = argparse.ArgumentParser()
+    words = command_words.Parser(__doc__)
     words.add_argument('folder')
     words.add_argument('--count', type=int, default=10000)
     words.add_argument('--seed', type=int, default=1)

@@ -10,6 +10,7 @@ import subprocess
 import sys
 import tempfile
 
+import command_words
 from definitions import Definitions
 
 SPECS = os.path.join(os.path.dirname(os.path.abspath(__file__)), '..', 'crates', 'rv_model', 'specs')
@@ -214,6 +215,7 @@ def compare_words(definitions, ops, folder, source):
 
 
 def main():
+    command_words.begin(__doc__)
     definitions = Definitions([os.path.join(SPECS, name + '.antt') for name in ('Word', 'Format', 'Table')])
     ops = [(patterns[0][1], definitions.value(body, {})[0]) for patterns, body in definitions.named('format')]
     source = random.Random(int(sys.argv[1]) if len(sys.argv) > 1 else 1)

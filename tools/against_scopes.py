@@ -15,6 +15,8 @@ import subprocess
 import sys
 import threading
 
+import command_words
+
 sys.setrecursionlimit(10 ** 6)
 threading.stack_size(512 * 1024 * 1024)
 
@@ -880,6 +882,7 @@ def main():
 
 
 if __name__ == '__main__':
+    command_words.begin(__doc__, 'ORACLE', 'WORKSPACE', 'PROGRAMS')
     t = threading.Thread(target=main)
     t.start()
     t.join()

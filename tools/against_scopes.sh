@@ -5,6 +5,8 @@
 #
 # The workspace gets copies of the crates and of the program that writes the Core of files (tools/core_dump), so that
 # nothing of the repository is changed. ORACLE is the folder of the reference, PROGRAMS a folder of programs.
+if [ "${1:-}" = --help ]; then sed '1d; /^#/!Q; s/^# \{0,1\}//' "$0"; exit 0; fi
+[ $# -ge 3 ] || { echo "against_scopes.sh: wanted are ORACLE, WORKSPACE, PROGRAMS (--help says what they are)" >&2; exit 2; }
 set -e
 oracle=$1 workspace=$2 programs=$3 seed=${4:-1} count=${5:-1000}
 top=$(cd "$(dirname "$0")/.." && pwd)

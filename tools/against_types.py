@@ -18,6 +18,7 @@ import threading
 
 sys.dont_write_bytecode = True
 sys.path.insert(0, os.path.dirname(os.path.abspath(__file__)))
+import command_words
 from against_scopes import programs
 
 sys.setrecursionlimit(10 ** 6)
@@ -521,6 +522,7 @@ def main():
 
 
 if __name__ == '__main__':
+    command_words.begin(__doc__, 'ORACLE', 'WORKSPACE', 'PROGRAMS')
     t = threading.Thread(target=main)
     t.start()
     t.join()

@@ -6,6 +6,8 @@
 # The workspace gets copies of the crates and of the program that writes the types of files (tools/type_dump), so that
 # nothing of the repository is changed: the copy of ml_infer shows the types of definitions too. ORACLE is the folder of
 # the reference, PROGRAMS a folder of programs or a file of worked rows, or several of these with commas.
+if [ "${1:-}" = --help ]; then sed '1d; /^#/!Q; s/^# \{0,1\}//' "$0"; exit 0; fi
+[ $# -ge 3 ] || { echo "against_types.sh: wanted are ORACLE, WORKSPACE, PROGRAMS (--help says what they are)" >&2; exit 2; }
 set -e
 oracle=$1 workspace=$2 programs=$3 seed=${4:-1} count=${5:-1000}
 top=$(cd "$(dirname "$0")/.." && pwd)

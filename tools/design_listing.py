@@ -17,6 +17,8 @@ file and options. So that its listings are to be the same, byte by byte, the des
 import os
 import sys
 
+import command_words
+
 
 class Address(int):
     """The number of a register that gets the address of a label."""
@@ -134,8 +136,7 @@ def load(folder):
 
 
 def main():
-    if len(sys.argv) < 3:
-        raise SystemExit(__doc__)
+    command_words.begin(__doc__, 'DESIGN', 'WORDS')
     status, out, err, _, _ = load(sys.argv[1]).execute(sys.argv[2:])
     sys.stdout.buffer.write(out)
     sys.stderr.buffer.write(err)

@@ -8,6 +8,7 @@ in turns of 1 and of 50 instructions. It ends with status 1 where one prints som
 """
 import sys
 
+import command_words
 import program_cases
 
 SECONDS, TURNS = 120, (None, 1, 50)
@@ -23,8 +24,7 @@ def fault(product, case, turns):
 
 
 def main():
-    if len(sys.argv) != 2:
-        sys.exit(__doc__)
+    command_words.begin(__doc__, 'PRODUCT')
     product = program_cases.command(sys.argv[1])
     cases = [case for case in program_cases.of_files([program_cases.EXAMPLES]) if program_cases.told_by_head(case.text)]
     faults = [found for case in cases for turns in TURNS if (found := fault(product, case, turns)) is not None]

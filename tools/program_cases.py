@@ -1,5 +1,4 @@
 """Programs for the tools that compare, and runs of the program that is compared."""
-import argparse
 import json
 import multiprocessing
 import os
@@ -10,6 +9,7 @@ import sys
 import tempfile
 import threading
 
+import command_words
 import random_programs
 
 USUAL = {'heap': 1048576, 'stack': 131072, 'out': 1048576, 'budget': 1073741824, 'domains': 4}
@@ -153,10 +153,10 @@ def deep(work, *arguments):
 def arguments(text, *names, numbers=()):
     """The words of a tool: its own ones, then files, rows and random programs; numbers are further options, each with its usual
     number and what it is."""
-    parser = argparse.ArgumentParser(description=text, formatter_class=argparse.RawDescriptionHelpFormatter)
+    parser = command_words.Parser(text)
     for name in names:
         parser.add_argument(name.lower(), metavar=name)
-    parser.add_argument('files', nargs='*', metavar='FILE', help='programs, or folders of them')
+    parser.add_argument('files', nargs='*', default=[], metavar='FILE', help='programs, or folders of them')
     parser.add_argument('--rows', help='a file of worked rows (rows.json)')
     parser.add_argument('--seed', type=int, default=0, help='the first seed of the random programs (0)')
     parser.add_argument('--count', type=int, default=0, help='how many random programs (0)')

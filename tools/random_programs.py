@@ -14,6 +14,7 @@ import random
 import re
 import sys
 
+import command_words
 import random_forms as forms
 
 HOLE = re.compile(r'\{(\w+)(!?)((?: \w+:\w+)*)\}|\$(\w+)')
@@ -244,10 +245,9 @@ def program(seed, for_ocaml=False):
 
 
 def main():
-    words = [word for word in sys.argv[1:] if word != '--ocaml']
-    if len(words) != 3:
-        raise SystemExit(__doc__)
-    seed, count, folder = int(words[0]), int(words[1]), words[2]
+    command_words.begin(__doc__, 'SEED', 'COUNT', 'FOLDER')
+    seed, count, folder = [word for word in sys.argv[1:] if word != '--ocaml'][:3]
+    seed, count = int(seed), int(count)
     os.makedirs(folder, exist_ok=True)
     for number in range(seed, seed + count):
         with open(os.path.join(folder, 'random%06d.ml' % number), 'w') as file:

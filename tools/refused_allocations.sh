@@ -3,6 +3,7 @@
 # Each refused run must end with status 70 and `error: memory`, and print nothing. Needs gcc; no part
 # of the gate.
 #   tools/refused_allocations.sh [WORDS..]      by default: run examples/answer.ml
+if [ "${1:-}" = --help ]; then sed '1d; /^#/!Q; s/^# \{0,1\}//' "$0"; exit 0; fi
 top=$(cd "$(dirname "$0")/.." && pwd) || exit 1
 [ $# -gt 0 ] || set -- run "$top/examples/answer.ml"
 "$top/effects" "$@" >/dev/null 2>&1

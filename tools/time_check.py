@@ -15,6 +15,7 @@ import sys
 import tempfile
 import time
 
+import command_words
 from time_parser import DEFINITIONS, SIZES, filled
 
 KINDS = [
@@ -108,6 +109,7 @@ def hostile(program, file):
 
 
 def main():
+    command_words.begin(__doc__, 'PROGRAM')
     program = os.path.abspath(sys.argv[1])
     with tempfile.NamedTemporaryFile(suffix='.ml') as file:
         for name, made in KINDS:

@@ -6,6 +6,7 @@ with the length), and tokens a second at 1 MiB.
 """
 import subprocess
 
+import command_words
 from lexer_program import Program
 
 SIZES = (65536, 1048576)
@@ -48,6 +49,7 @@ def nanoseconds(path, text):
 
 
 def main():
+    command_words.begin(__doc__)
     with Program() as program:
         path = program.build()
         for name, made in KINDS:

@@ -8,6 +8,7 @@ memory of the process at 1 MiB, for each byte of the text. The last lines are te
 import subprocess
 import sys
 
+import command_words
 from parser_program import TIMES, Program
 
 SIZES = (65536, 262144, 1048576)
@@ -84,6 +85,7 @@ def peak(path, text):
 
 
 def main():
+    command_words.begin(__doc__)
     with Program(TIMES) as program:
         path = program.build()
         for name, made in KINDS:

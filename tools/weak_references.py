@@ -11,6 +11,8 @@ import os
 import random
 import sys
 
+import command_words
+
 HEADS = [
     'let r = ref []',
     'let q = ref []',
@@ -50,6 +52,7 @@ def program(rng):
 
 
 def main():
+    command_words.begin(__doc__, 'FOLDER')
     folder, seed, count = (sys.argv[1:] + ['1', '500'][len(sys.argv) - 2:])[:3]
     rng = random.Random(int(seed))
     os.makedirs(folder, exist_ok=True)
