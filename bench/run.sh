@@ -13,4 +13,4 @@ trap 'rm -rf "$work"' EXIT
 "$top/effects" check "$top/examples/answer.ml" >/dev/null
 for runner in rvrun rvfast; do gcc -O2 -o "$work/$runner" "$top/bench/$runner.c"; done
 "$top/bench/measure.py" "$top/crates/effects_cli/out/effects_cli" "$work/rvrun" "$work/rvfast" ${1:+"$1"}
-"$top/tools/time_check.py" "$top/crates/effects_cli/out/effects_cli"
+"$top/tools/time_check.py" "$top/crates/effects_cli/out/effects_cli" ${1:+"$1"}

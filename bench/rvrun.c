@@ -2,6 +2,7 @@
 // It runs the harts in turns, in rounds from hart 0 up, and ends where the end word isn't 0, a budget is
 // spent, or a whole round went by without an instruction.
 //   rvrun LISTING [TURNS]      prints the log to stdout and "end E details retired..." to stderr
+// Compiled with -DCOUNTS it prints how often each instruction was carried out in place of the log, a line each.
 #include <inttypes.h>
 #include <stdint.h>
 #include <stdio.h>
@@ -53,6 +54,9 @@ static struct ins decode(uint32_t w) {
 
 struct hart { uint64_t x[32], pc, retired; };
 static struct ins *code; static uint64_t ncode, *words, nwords, budget, domains;
+#ifdef COUNTS
+static uint64_t *counts;
+#endif
 enum { WENT, WAITS, STOPPED, FAULT };
 
 static int step(struct hart *h) {
@@ -96,6 +100,9 @@ static int step(struct hart *h) {
     ADDR(x[10]); if (words[at] == x[11]) return WAITS; x[10] = words[at]; wr = 0; break;
   default: return FAULT;
   }
+#ifdef COUNTS
+  counts[h->pc / 4]++;
+#endif
   if (wr && i.rd) x[i.rd] = r;
   h->pc = next; h->retired++;
   return WENT;
@@ -116,6 +123,9 @@ int main(int argc, char **argv) {
       code[ncode++] = decode(word);
     } else { fprintf(stderr, "rvrun: bad line %s", line); return 65; }
   }
+#ifdef COUNTS
+  counts = calloc(ncode, sizeof *counts);
+#endif
   struct hart *h = calloc(domains, sizeof *h);
   for (uint64_t i = 0; i < domains; i++) h[i].x[10] = i;
   struct timespec t0, t1; clock_gettime(CLOCK_MONOTONIC, &t0);
@@ -134,6 +144,10 @@ int main(int argc, char **argv) {
     if (!end && !any) end = "deadlock";
   }
   clock_gettime(CLOCK_MONOTONIC, &t1);
+#ifdef COUNTS
+  for (uint64_t i = 0; i < ncode; i++) printf("%" PRIu64 "\n", counts[i]);
+  words[6] = 0;
+#endif
   for (uint64_t i = 0; i < words[6]; i++) putchar((int)((words[(1152 + i) / 8] >> (8 * (i & 7))) & 255));
   fprintf(stderr, "%s %" PRIu64 " details %" PRIu64 " %" PRIu64 " %" PRIu64 " heap %" PRIu64 " retired", end, words[1], words[2], words[3], words[4], words[8]);
   uint64_t total = 0;

@@ -1,11 +1,13 @@
 #!/usr/bin/env python3
 """Times `check` on files of several sorts, from 64 KiB to 1 MiB, and measures its memory. It isn't part of the gate.
 
-    tools/time_check.py PROGRAM        PROGRAM being ./effects or crates/effects_cli/out/effects_cli
+    tools/time_check.py PROGRAM [OCAML]
 
+PROGRAM is ./effects or crates/effects_cli/out/effects_cli, OCAML a root folder of a system with `ocamlc`, which is entered by chroot;
+without it the one on the PATH is taken, if there is one.
 Each line has the sort, for 64 KiB, 256 KiB and 1 MiB the best time of five of the whole process in milliseconds, the ratio
-of the last two (4 where time grows with the length), the peak memory at 1 MiB in MiB, and the last answer. Where `ocamlc` is
-there, the time of `ocamlc -i` on the file of 1 MiB follows, or that it was refused or took more than a minute. The last lines
+of the last two (4 where time grows with the length), the peak memory at 1 MiB in MiB, and the last answer. Where there is an
+`ocamlc`, the time of `ocamlc -i` on the file of 1 MiB follows, or that it was refused or took more than a minute. The last lines
 are hostile to inference; their sizes are numbers of definitions.
 """
 import os
@@ -77,16 +79,20 @@ def peak(program, path):
     return usage.ru_maxrss / 1024
 
 
-def by_ocaml(path):
-    """The time of `ocamlc -i`, where it is there."""
-    if shutil.which('ocamlc') is None:
+def by_ocaml(path, root):
+    """The time of `ocamlc -i`, in the system at a root folder or here, where it is there."""
+    if not root and shutil.which('ocamlc') is None:
         return ''
-    start = time.perf_counter_ns()
-    try:
-        run = subprocess.run(['ocamlc', '-w', '-a', '-i', path], stdout=subprocess.DEVNULL, stderr=subprocess.DEVNULL, timeout=60)
-    except subprocess.TimeoutExpired:
-        return 'ocamlc more than a minute'
-    return 'ocamlc %8.2f ms%s' % ((time.perf_counter_ns() - start) / 1e6, '' if run.returncode == 0 else ', refused')
+    with tempfile.NamedTemporaryFile(suffix='.ml', dir=root and os.path.join(root, 'tmp')) as copy:
+        with open(path, 'rb') as file:
+            write(copy, file.read())
+        enter, inside = (['chroot', root], copy.name[len(root):]) if root else ([], copy.name)
+        start = time.perf_counter_ns()
+        try:
+            run = subprocess.run(enter + ['ocamlc', '-w', '-a', '-i', inside], stdout=subprocess.DEVNULL, stderr=subprocess.DEVNULL, timeout=60)
+        except subprocess.TimeoutExpired:
+            return 'ocamlc more than a minute'
+        return 'ocamlc %8.2f ms%s' % ((time.perf_counter_ns() - start) / 1e6, '' if run.returncode == 0 else ', refused')
 
 
 def write(file, text):
@@ -96,7 +102,7 @@ def write(file, text):
     file.flush()
 
 
-def hostile(program, file):
+def hostile(program, file, root):
     for name, made, sizes in HOSTILE:
         times = []
         for size in sizes:
@@ -105,12 +111,12 @@ def hostile(program, file):
             times.append(min(time for time, _ in runs))
         print('%-30s %s ms  ratio %4.1f  %6.1f MiB  %s  %s' % (
             '%d %s' % (sizes[-1], name), ' '.join('%8.2f' % (time / 1e6) for time in times), times[-1] / times[-2],
-            peak(program, file.name), runs[-1][1], by_ocaml(file.name)), flush=True)
+            peak(program, file.name), runs[-1][1], by_ocaml(file.name, root)), flush=True)
 
 
 def main():
     command_words.begin(__doc__, 'PROGRAM')
-    program = os.path.abspath(sys.argv[1])
+    program, root = os.path.abspath(sys.argv[1]), sys.argv[2] if len(sys.argv) > 2 else None
     with tempfile.NamedTemporaryFile(suffix='.ml') as file:
         for name, made in KINDS:
             times = []
@@ -120,8 +126,8 @@ def main():
                 times.append(min(time for time, _ in runs))
             print('%-30s %s ms  ratio %4.1f  %6.1f MiB  %s  %s' % (
                 name, ' '.join('%8.2f' % (time / 1e6) for time in times), times[-1] / times[-2],
-                peak(program, file.name), runs[-1][1], by_ocaml(file.name)), flush=True)
-        hostile(program, file)
+                peak(program, file.name), runs[-1][1], by_ocaml(file.name, root)), flush=True)
+        hostile(program, file, root)
 
 
 if __name__ == '__main__':
